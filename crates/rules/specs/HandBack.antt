@@ -1,0 +1,121 @@
+-- Hand back: document 01, "Step and hand back", rows 11, 12, 25, 26, then 27 to 33, 19, 18, 24.
+use mathlib.Core.Bool.{Bool, true, false, not, _&&_, _||_}
+use mathlib.Core.List.{List, [], _∷_, _++_, map}
+use Prim.Native.Nat.{ℕ, suc, _+_, _^_, _/_, _%_, max}
+use lib.Dec.{leb, ltb, eqb}
+use lib.ListN.{length, getD}
+use Rattle.rules.specs.Base.{if_then_else_, upTo, any, member, count, nonEmpty}
+use Rattle.rules.specs.State.{Message, Event, Stored, unset, stored, State, Counters, withHandled, closed, poison, raise, top, most, most-processes, most-pending, most-payload}
+use Rattle.rules.specs.Answers
+use Rattle.rules.specs.Answers.{Refusal, Committed, Refused}
+use Rattle.rules.specs.Rows.{Row, _⇒_, unless, Out, out, refuse}
+use Rattle.rules.specs.Pending.{queue, route}
+use Rattle.rules.specs.Foreign.{foreign}
+use Rattle.rules.specs.Refresh.{refreshed}
+use Rattle.rules.specs.Step.{spent}
+
+-- "A reply is a mask of failed processes and a lent list of emission records, each with its emitter."
+pub record Emission : Type 0 where
+  pub emitter : ℕ
+  pub message : Message
+
+unfoldable pub failed : ℕ → ℕ → Bool
+failed mask p = eqb (mask / 2 ^ p % 2) 1
+
+-- "Malformed: emitters fall, an emitter or failed process isn't in the batch, a failed one has emissions, a payload is above 16."
+unfoldable pub fall : List Emission → Bool
+fall [] = false
+fall (x ∷ []) = false
+fall (x ∷ y ∷ ys) = ltb (y .emitter) (x .emitter) || fall (y ∷ ys)
+
+unfoldable pub inBatch : List Event → ℕ → Bool
+inBatch batch p = any (λ e. eqb (e .destination) p) batch
+
+unfoldable pub malformed : List Event → ℕ → List Emission → Bool
+malformed batch mask xs =
+    fall xs
+    || any (λ x. not (inBatch batch (x .emitter))) xs
+    || any (λ p. failed mask p && not (inBatch batch p)) (upTo most-processes)
+    || any (λ x. failed mask (x .emitter)) xs
+    || any (λ x. ltb most-payload (length (x .message .payload))) xs
+
+-- "The minimum tick is the event's tick for an emission to oneself, else that tick + L."
+unfoldable pub minimum : ℕ → ℕ → Message → ℕ
+minimum L t m = if eqb (m .destination) (m .source) then t else t + L
+
+-- 28 to 32 of the emission m of the process p, whose event has tick t, in a runtime of n processes with the routes given.
+abbrev pub messageRows : ℕ → (ℕ → ℕ → Bool) → ℕ → ℕ → ℕ → Message → List Row
+messageRows n routes L p t m =
+    (not (eqb (m .source) p) ⇒ Answers.OutboundSourceMismatch p (m .source))
+    ∷ (leb n (m .destination) ⇒ Answers.UnknownOutboundDestination (m .destination))
+    ∷ (not (routes (m .source) (m .destination)) ⇒ Answers.OutboundRouteMissing (m .source) (m .destination))
+    ∷ (ltb top (minimum L t m) ⇒ Answers.LookaheadOverflow p t L)
+    ∷ (ltb (m .tick) (minimum L t m) ⇒ Answers.OutboundLookaheadViolation p t (m .tick) (minimum L t m))
+    ∷ []
+
+-- 33: "straggler: emission below the destination's local horizon"
+abbrev pub stragglerRow : State → Message → Row
+stragglerRow s m = ltb (m .tick) (getD (s .horizons) (m .destination) 0) ⇒ Answers.Straggler (m .destination) (m .tick) (getD (s .horizons) (m .destination) 0)
+
+-- "for its emissions in turn, 28 to 33": those of the event e in hand.
+unfoldable pub emissionRows : State → Event → List Emission → List Row
+emissionRows s e [] = []
+emissionRows s e (x ∷ xs) =
+    if eqb (x .emitter) (e .destination) then (messageRows (s .n) (route (s .edges)) (s .lookahead) (x .emitter) (e .tick) (x .message) ++ (stragglerRow s (x .message) ∷ emissionRows s e xs))
+    else emissionRows s e xs
+
+-- "process by process in id order 27 and, for its emissions in turn, 28 to 33"
+unfoldable pub processRows : State → ℕ → List Emission → List Event → List Row
+processRows s mask xs [] = []
+processRows s mask xs (e ∷ es) = (failed mask (e .destination) ⇒ Answers.HandlerFailed (e .destination)) ∷ (emissionRows s e xs ++ processRows s mask xs es)
+
+-- "then 19, then 18". All of these poison.
+abbrev pub poisonRows : State → ℕ → List Emission → List Row
+poisonRows s mask xs =
+    processRows s mask xs (s .batch)
+    ++ ((ltb most (s .next + length xs) ⇒ Answers.EventSequenceOverflow)
+    ∷ (ltb most-pending (length (s .pending) + length xs) ⇒ Answers.QueueFull)
+    ∷ [])
+
+abbrev pub backRows : State → ℕ → List Emission → List Row
+backRows s mask xs =
+    (foreign s ⇒ Answers.ForeignState)
+    ∷ (s .poisoned ⇒ Answers.Poisoned)
+    ∷ (not (nonEmpty (s .batch)) ⇒ Answers.NoBatch)
+    ∷ (malformed (s .batch) mask xs ⇒ Answers.MalformedReply)
+    ∷ []
+
+-- "remote (destination is not source)"
+abbrev pub isRemote : Emission → Bool
+isRemote x = not (eqb (x .message .destination) (x .message .source))
+
+-- "Handled, emitted and remote grow by their counts, .. rounds by 1; the worker count is the largest batch so far."
+abbrev pub countRound : Counters → List Event → List Emission → Counters
+countRound c batch xs = record { handled = raise (c .handled) (length batch); emitted = raise (c .emitted) (length xs); remote = raise (c .remote) (count isRemote xs); rounds = raise (c .rounds) 1; nulls = c .nulls; workers = max (c .workers) (length batch) }
+
+abbrev pub messages : List Emission → List Message
+messages xs = map (λ (x : Emission). x .message) xs
+
+-- "After all checks, everything is queued in list order", used grows "by the events handled".
+abbrev pub handled : State → List Emission → State
+handled s xs = withHandled s (queue (s .pending) (s .next) (messages xs)) (s .next + length xs) (raise (s .used) (length (s .batch)))
+
+-- "Then 24 if used >= budget and an event is eligible, without refresh; else refresh and answer Committed."
+unfoldable pub commit : State → Counters → ℕ → ℕ → List Emission → Out
+commit s c horizon budget xs =
+    let t = handled s xs in
+    let u = refreshed t horizon (t .edges) (t .edges) (t .horizons) in
+    if spent t horizon budget then out (Refused (Answers.EventBudgetExceeded budget)) (closed t) (countRound c (s .batch) xs)
+    else out (Committed (u .gvt)) u (countRound c (s .batch) xs)
+
+-- A batch has an open run, and that a horizon: 11 was checked.
+unfoldable pub commitAt : State → Counters → Stored → List Emission → Out
+commitAt s c unset xs = refuse s c Answers.NoBatch
+commitAt s c (stored horizon budget) xs = commit s c horizon budget xs
+
+-- "Left: poisoned".
+abbrev pub lose : State → Counters → Refusal → Out
+lose s c r = out (Refused r) (poison s) c
+
+unfoldable pub handBack : State → Counters → ℕ → List Emission → Out
+handBack s c mask xs = unless (backRows s mask xs) (refuse s c) (unless (poisonRows s mask xs) (lose s c) (commitAt s c (s .limits) xs))

@@ -1,0 +1,19 @@
+-- Document 01, section by section. Read in this order.
+pub mod Base
+pub mod State
+pub mod Answers
+pub mod Rows
+pub mod Build
+pub mod Pending
+pub mod Frontiers
+pub mod Foreign
+pub mod Initial
+pub mod Begin
+pub mod Refresh
+pub mod Step
+pub mod HandBack
+pub mod Reads
+pub mod Plan
+pub mod Calls
+pub mod History
+pub mod Opened

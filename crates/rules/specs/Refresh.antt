@@ -1,0 +1,30 @@
+-- Refresh: document 01, "Step and hand back", its last paragraph but one.
+use mathlib.Core.List.{List, [], _∷_, map}
+use Prim.Native.Nat.{ℕ, suc, _-_, min, max}
+use Rattle.rules.specs.State.{Event, Edge, State, withFronts}
+use Rattle.rules.specs.Pending.{firstTick}
+use Rattle.rules.specs.Frontiers.{safe}
+
+-- The least of m and the numbers xs.
+unfoldable pub least : ℕ → List ℕ → ℕ
+least m [] = m
+least m (x ∷ xs) = least (min m x) xs
+
+-- Each h(p), p from i on, rises to what `to p` says.
+unfoldable pub raised : (ℕ → ℕ) → ℕ → List ℕ → List ℕ
+raised to i [] = []
+raised to i (h ∷ hs) = max h (to i) ∷ raised to (suc i) hs
+
+-- "h(p) rises to min(safe(p), first pending tick if any)"; es are the edges that safe is read from.
+unfoldable pub refreshTo : List Edge → ℕ → List Event → ℕ → ℕ
+refreshTo es H q p = min (safe es H p) (firstTick q p (safe es H p))
+
+-- "GVT rises to the least of the horizon, all pending ticks and all h - 1 (0 for h = 0)."
+unfoldable pub gvtOf : ℕ → ℕ → List Event → List ℕ → ℕ
+gvtOf g horizon q hs = max g (least (least horizon (map (λ (e : Event). e .tick) q)) (map (λ h. h - 1) hs))
+
+-- The local horizons hs and the edges es are those of the call so far; safe is read from the edges `old`: "in a step, safe is still the one from before the advance".
+unfoldable pub refreshed : State → ℕ → List Edge → List Edge → List ℕ → State
+refreshed s horizon old es hs =
+    let hs′ = raised (refreshTo old (suc horizon) (s .pending)) 0 hs in
+    withFronts s es hs′ (gvtOf (s .gvt) horizon (s .pending) hs′)

@@ -1,0 +1,120 @@
+-- What a runtime is: its limits, events, edges, counters and state.
+use mathlib.Core.Bool.{Bool, true, false}
+use mathlib.Core.List.{List, [], _∷_}
+use Prim.Native.Nat.{ℕ, _+_, _-_, _^_, min}
+
+-- "Limits: 1 to 64 processes, ids 0 to n-1; 512 edges; 512 pending events; payload 0 to 16 bytes; 1,024 entities."
+abbrev pub most-processes : ℕ
+most-processes = 64
+
+abbrev pub most-edges : ℕ
+most-edges = 512
+
+abbrev pub most-pending : ℕ
+most-pending = 512
+
+abbrev pub most-payload : ℕ
+most-payload = 16
+
+abbrev pub most-entities : ℕ
+most-entities = 1024
+
+-- "Ticks and lookahead have 128 bits": the largest tick.
+abbrev pub top : ℕ
+top = 2 ^ 128 - 1
+
+-- "budget and counters 64": the largest count, and the largest sequence number.
+abbrev pub most : ℕ
+most = 2 ^ 64 - 1
+
+-- "Counters, used among them, stop at 2^64 - 1."
+abbrev pub raise : ℕ → ℕ → ℕ
+raise c k = min most (c + k)
+
+-- "An event has source, destination, tick and payload; accepted, it gets the next sequence number".
+-- A message is an event before it is accepted.
+pub record Message : Type 0 where
+  pub source : ℕ
+  pub destination : ℕ
+  pub tick : ℕ
+  pub payload : List ℕ
+
+pub record Event : Type 0 where
+  pub source : ℕ
+  pub destination : ℕ
+  pub tick : ℕ
+  pub sequence : ℕ
+  pub payload : List ℕ
+
+abbrev pub numbered : Message → ℕ → Event
+numbered m k = record { source = m .source; destination = m .destination; tick = m .tick; sequence = k; payload = m .payload }
+
+-- "Each edge has a bound".
+pub record Edge : Type 0 where
+  pub source : ℕ
+  pub destination : ℕ
+  pub bound : ℕ
+
+-- "Handled, emitted and remote (destination is not source)", rounds, null messages, "the worker count". They are lent, so they stand beside the state.
+pub record Counters : Type 0 where
+  pub handled : ℕ
+  pub emitted : ℕ
+  pub remote : ℕ
+  pub rounds : ℕ
+  pub nulls : ℕ
+  pub workers : ℕ
+
+abbrev pub zeros : Counters
+zeros = record { handled = 0; emitted = 0; remote = 0; rounds = 0; nulls = 0; workers = 0 }
+
+-- "the stored horizon and budget if any".
+pub data Stored : Type 0 where
+  unset : Stored
+  stored : ℕ → ℕ → Stored
+
+-- "processes and edges, pending events with their sequence numbers, the next sequence number, edge bounds, local horizons, GVT, the stored horizon
+-- and budget if any, the batch in hand, and whether initial events are open, a run is open and the runtime is poisoned"; and this run's used count.
+pub record State : Type 0 where
+  pub n : ℕ
+  pub lookahead : ℕ
+  pub edges : List Edge
+  pub pending : List Event
+  pub next : ℕ
+  pub horizons : List ℕ
+  pub gvt : ℕ
+  pub limits : Stored
+  pub used : ℕ
+  pub batch : List Event
+  pub initial : Bool
+  pub running : Bool
+  pub poisoned : Bool
+
+-- The state with some of its fields set anew: what add initial, begin, step and hand back change.
+
+-- q is pending, and k is the next sequence number.
+abbrev pub withPending : State → List Event → ℕ → State
+withPending s q k = record { n = s .n; lookahead = s .lookahead; edges = s .edges; pending = q; next = k; horizons = s .horizons; gvt = s .gvt; limits = s .limits; used = s .used; batch = s .batch; initial = s .initial; running = s .running; poisoned = s .poisoned }
+
+-- "Begin stores horizon and budget, closes initial events, sets this run's used count to 0 and opens the run."
+abbrev pub withRun : State → ℕ → ℕ → State
+withRun s h b = record { n = s .n; lookahead = s .lookahead; edges = s .edges; pending = s .pending; next = s .next; horizons = s .horizons; gvt = s .gvt; limits = stored h b; used = 0; batch = s .batch; initial = false; running = true; poisoned = s .poisoned }
+
+-- The run is closed.
+abbrev pub closed : State → State
+closed s = record { n = s .n; lookahead = s .lookahead; edges = s .edges; pending = s .pending; next = s .next; horizons = s .horizons; gvt = s .gvt; limits = s .limits; used = s .used; batch = s .batch; initial = s .initial; running = false; poisoned = s .poisoned }
+
+-- The batch b is in hand, and q is left pending.
+abbrev pub withBatch : State → List Event → List Event → State
+withBatch s b q = record { n = s .n; lookahead = s .lookahead; edges = s .edges; pending = q; next = s .next; horizons = s .horizons; gvt = s .gvt; limits = s .limits; used = s .used; batch = b; initial = s .initial; running = s .running; poisoned = s .poisoned }
+
+-- The batch was handled: q is pending, k is the next sequence number, u is used.
+abbrev pub withHandled : State → List Event → ℕ → ℕ → State
+withHandled s q k u = record { n = s .n; lookahead = s .lookahead; edges = s .edges; pending = q; next = k; horizons = s .horizons; gvt = s .gvt; limits = s .limits; used = u; batch = []; initial = s .initial; running = s .running; poisoned = s .poisoned }
+
+-- The edges es, the local horizons hs and GVT g.
+abbrev pub withFronts : State → List Edge → List ℕ → ℕ → State
+withFronts s es hs g = record { n = s .n; lookahead = s .lookahead; edges = es; pending = s .pending; next = s .next; horizons = hs; gvt = g; limits = s .limits; used = s .used; batch = s .batch; initial = s .initial; running = s .running; poisoned = s .poisoned }
+
+-- "'Poisoned' in the last column: the batch is lost, poisoned is set, all else stands."
+abbrev pub poison : State → State
+poison s = record { n = s .n; lookahead = s .lookahead; edges = s .edges; pending = s .pending; next = s .next; horizons = s .horizons; gvt = s .gvt; limits = s .limits; used = s .used; batch = []; initial = s .initial; running = s .running; poisoned = true }

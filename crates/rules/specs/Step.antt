@@ -1,0 +1,117 @@
+-- Step: document 01, "Step and hand back", rows 11, 12, 23, 24.
+use mathlib.Core.Bool.{Bool, true, false, not, _&&_, _||_}
+use mathlib.Core.List.{List, [], _∷_, map}
+use Prim.Native.Nat.{ℕ, zero, suc, _+_, _-_, min, max}
+use lib.Dec.{leb, ltb}
+use Rattle.rules.specs.Base.{if_then_else_, Maybe, none, some, upTo, every, nonEmpty}
+use Rattle.rules.specs.State.{Event, Edge, Stored, unset, stored, State, Counters, withBatch, closed, poison, raise, top}
+use Rattle.rules.specs.Answers
+use Rattle.rules.specs.Answers.{Batch, Advanced, Finished, Refused}
+use Rattle.rules.specs.Rows.{Row, _⇒_, unless, Out, out, refuse}
+use Rattle.rules.specs.Pending.{firstTick, withoutFirst}
+use Rattle.rules.specs.Frontiers.{safe, eligible, anyEligible}
+use Rattle.rules.specs.Foreign.{foreign}
+use Rattle.rules.specs.Refresh.{raised, refreshed}
+
+-- "in id order, take the first eligible event of each process while used + taken < budget": `room` is budget - used - taken.
+pub record Taken : Type 0 where
+  pub events : List Event
+  pub left : List Event
+
+unfoldable pub takeOne : Maybe Event → ℕ → List Event → ℕ → (ℕ → List Event → Taken) → Taken
+takeOne none p q room rest = rest room q
+takeOne (some e) p q zero rest = record { events = []; left = q }
+takeOne (some e) p q (suc room) rest =
+    let r = rest room (withoutFirst q p) in
+    record { events = e ∷ r .events; left = r .left }
+
+unfoldable pub take : List Edge → ℕ → List ℕ → ℕ → List Event → Taken
+take es H [] room q = record { events = []; left = q }
+take es H (p ∷ ps) room q = takeOne (eligible es H q p) p q room (take es H ps)
+
+-- "local horizon h(p) .. rises to min(safe(p), first pending tick or H)"
+unfoldable pub aim : State → ℕ → ℕ → ℕ
+aim s H p = min (safe (s .edges) H p) (firstTick (s .pending) p H)
+
+-- "each edge bound from s rises to min(H, min(safe(s), first pending tick or H) + L), or to H on overflow."
+unfoldable pub boundTo : State → ℕ → ℕ → ℕ
+boundTo s H p = if ltb top (aim s H p + s .lookahead) then H else min H (aim s H p + s .lookahead)
+
+-- "All read safe as it was before."
+unfoldable pub raisedEdges : State → ℕ → List Edge → List Edge
+raisedEdges s H [] = []
+raisedEdges s H (e ∷ es) = record { source = e .source; destination = e .destination; bound = max (e .bound) (boundTo s H (e .source)) } ∷ raisedEdges s H es
+
+-- How many bounds of the second list are above those of the first. "Each bound raised is one null message."
+unfoldable pub countRaised : List Edge → List Edge → ℕ
+countRaised [] fs = 0
+countRaised (e ∷ es) [] = 0
+countRaised (e ∷ es) (f ∷ fs) = (if ltb (e .bound) (f .bound) then 1 else 0) + countRaised es fs
+
+-- Whether a local horizon rose.
+unfoldable pub anyRaised : List ℕ → List ℕ → Bool
+anyRaised [] ys = false
+anyRaised (x ∷ xs) [] = false
+anyRaised (x ∷ xs) (y ∷ ys) = ltb x y || anyRaised xs ys
+
+abbrev pub newEdges : State → ℕ → List Edge
+newEdges s H = raisedEdges s H (s .edges)
+
+abbrev pub newHorizons : State → ℕ → List ℕ
+newHorizons s H = raised (aim s H) 0 (s .horizons)
+
+abbrev pub nullsOf : State → ℕ → ℕ
+nullsOf s H = countRaised (s .edges) (newEdges s H)
+
+unfoldable pub rose : State → ℕ → Bool
+rose s H = ltb 0 (nullsOf s H) || anyRaised (s .horizons) (newHorizons s H)
+
+-- "Then refresh GVT."
+abbrev pub advanced : State → ℕ → State
+advanced s horizon = refreshed s horizon (s .edges) (newEdges s (suc horizon)) (newHorizons s (suc horizon))
+
+-- "If anything rose, rounds + 1."
+abbrev pub countAdvance : Counters → ℕ → Counters
+countAdvance c k = record { handled = c .handled; emitted = c .emitted; remote = c .remote; rounds = raise (c .rounds) 1; nulls = raise (c .nulls) k; workers = c .workers }
+
+-- "every h >= H and every pending tick >= H"
+unfoldable pub complete : State → ℕ → Bool
+complete s H = every (leb H) (s .horizons) && every (λ e. leb H (e .tick)) (s .pending)
+
+-- "If something rose, answer Advanced. If nothing rose, and [the run is complete], answer Finished and close the run; else poison and answer 12."
+unfoldable pub advance : State → Counters → ℕ → Out
+advance s c horizon =
+    let t = advanced s horizon in
+    if rose s (suc horizon) then out (Advanced (t .gvt)) t (countAdvance c (nullsOf s (suc horizon)))
+    else if complete t (suc horizon) then out (Finished (t .gvt)) (closed t) c
+    else out (Refused Answers.Poisoned) (poison t) c
+
+abbrev pub takenAt : State → ℕ → ℕ → Taken
+takenAt s horizon budget = take (s .edges) (suc horizon) (upTo (s .n)) (budget - s .used) (s .pending)
+
+-- "used >= budget and an event is eligible"
+abbrev pub spent : State → ℕ → ℕ → Bool
+spent s horizon budget = leb budget (s .used) && anyEligible (s .edges) (suc horizon) (s .pending) (upTo (s .n))
+
+-- "If any was taken, answer the batch. Else if used >= budget and an event is eligible, 24. Else advance". 24 leaves "run closed, otherwise as reached".
+unfoldable pub stepRun : State → Counters → ℕ → ℕ → Out
+stepRun s c horizon budget =
+    let t = takenAt s horizon budget in
+    if nonEmpty (t .events) then out (Batch (t .events) (s .gvt)) (withBatch s (t .events) (t .left)) c
+    else if spent s horizon budget then out (Refused (Answers.EventBudgetExceeded budget)) (closed s) c
+    else advance s c horizon
+
+-- A run that is open has a horizon: 11 was checked.
+unfoldable pub stepAt : State → Counters → Stored → Out
+stepAt s c unset = refuse s c Answers.NothingToStep
+stepAt s c (stored horizon budget) = stepRun s c horizon budget
+
+abbrev pub stepRows : State → List Row
+stepRows s =
+    (foreign s ⇒ Answers.ForeignState)
+    ∷ (s .poisoned ⇒ Answers.Poisoned)
+    ∷ (not (s .running) || nonEmpty (s .batch) ⇒ Answers.NothingToStep)
+    ∷ []
+
+unfoldable pub step : State → Counters → Out
+step s c = unless (stepRows s) (refuse s c) (stepAt s c (s .limits))
