@@ -25,10 +25,13 @@ upFrom i (suc n) = i ∷ upFrom (suc i) n
 unfoldable pub upTo : ℕ → List ℕ
 upTo n = upFrom 0 n
 
--- Whether a test holds of some element, and whether it holds of every one.
+-- Whether a test holds of some element, whether one of several holds, and whether a test holds of every element.
 unfoldable pub any : {A : Type 0} → (A → Bool) → List A → Bool
 any f [] = false
 any f (x ∷ xs) = f x || any f xs
+
+unfoldable pub anyOf : List Bool → Bool
+anyOf ts = any (λ t. t) ts
 
 unfoldable pub every : {A : Type 0} → (A → Bool) → List A → Bool
 every f [] = true

@@ -4,7 +4,7 @@ use mathlib.Core.List.{List, [], _∷_, _++_, map}
 use Prim.Native.Nat.{ℕ, _+_, _^_}
 use lib.Dec.{leb, ltb, eqb}
 use lib.ListN.{length, take, drop}
-use Rattle.rules.specs.Base.{if_then_else_, Maybe, none, some, upTo, any, every, member, sum, count, rising}
+use Rattle.rules.specs.Base.{if_then_else_, Maybe, none, some, upTo, any, anyOf, member, sum, count, rising}
 use Rattle.rules.specs.State.{Edge, Counters, State, unset, zeros, most-processes, most-edges}
 use Rattle.rules.specs.Answers
 use Rattle.rules.specs.Answers.{Refusal, Answer, Accepted, Refused}
@@ -32,7 +32,12 @@ unexpected n ids = count (leb n) ids
 -- 5: "row sources not strictly rising, rows not using up the list exactly, over 512 edges". Two lists of unequal length are no rows.
 unfoldable pub malformedRows : Setup → Bool
 malformedRows a =
-    not (eqb (length (a .sources)) (length (a .counts))) || not (rising ltb (a .sources)) || not (eqb (sum (a .counts)) (length (a .destinations))) || ltb most-edges (length (a .destinations))
+    anyOf
+    (not (eqb (length (a .sources)) (length (a .counts)))
+    ∷ not (rising ltb (a .sources))
+    ∷ not (eqb (sum (a .counts)) (length (a .destinations)))
+    ∷ ltb most-edges (length (a .destinations))
+    ∷ [])
 
 -- 6: the least of the processes ps that has no row.
 unfoldable pub leastRowless : List ℕ → List ℕ → ℕ

@@ -4,7 +4,7 @@ use mathlib.Core.List.{List, [], _∷_, _++_, map}
 use Prim.Native.Nat.{ℕ, suc, _+_, _^_, _/_, _%_, max}
 use lib.Dec.{leb, ltb, eqb}
 use lib.ListN.{length, getD}
-use Rattle.rules.specs.Base.{if_then_else_, upTo, any, member, count, nonEmpty}
+use Rattle.rules.specs.Base.{if_then_else_, upTo, any, anyOf, member, count, nonEmpty}
 use Rattle.rules.specs.State.{Message, Event, Stored, unset, stored, State, Counters, withHandled, closed, poison, raise, top, most, most-processes, most-pending, most-payload}
 use Rattle.rules.specs.Answers
 use Rattle.rules.specs.Answers.{Refusal, Committed, Refused}
@@ -33,11 +33,13 @@ inBatch batch p = any (λ e. eqb (e .destination) p) batch
 
 unfoldable pub malformed : List Event → ℕ → List Emission → Bool
 malformed batch mask xs =
-    fall xs
-    || any (λ x. not (inBatch batch (x .emitter))) xs
-    || any (λ p. failed mask p && not (inBatch batch p)) (upTo most-processes)
-    || any (λ x. failed mask (x .emitter)) xs
-    || any (λ x. ltb most-payload (length (x .message .payload))) xs
+    anyOf
+    (fall xs
+    ∷ any (λ x. not (inBatch batch (x .emitter))) xs
+    ∷ any (λ p. failed mask p && not (inBatch batch p)) (upTo most-processes)
+    ∷ any (λ x. failed mask (x .emitter)) xs
+    ∷ any (λ x. ltb most-payload (length (x .message .payload))) xs
+    ∷ [])
 
 -- "The minimum tick is the event's tick for an emission to oneself, else that tick + L."
 unfoldable pub minimum : ℕ → ℕ → Message → ℕ

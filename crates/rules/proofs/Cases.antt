@@ -1,0 +1,217 @@
+-- What a call can do, once for all invariants: P of each outcome gives P of the call.
+use mathlib.Core.Path.{_≡_, refl}
+use mathlib.Core.Bool.{Bool, true, false, not, _&&_, _||_}
+use mathlib.Core.List.{List, [], _∷_, _++_}
+use Prim.Native.Nat.{ℕ, suc, _+_, _≤_, _<_}
+use native.Mathlib.Omega.{arith}
+use lib.Dec.{leb, ltb, eqb}
+use lib.ListN.{length}
+use borrow.Author.Tests.{leb-false, ltb-false}
+use Rattle.rules.specs.Base.{if_then_else_, nonEmpty}
+use Rattle.rules.specs.State.{Event, Message, Stored, unset, stored, State, Counters, numbered, withPending, withRun, withBatch, closed, poison, top, most}
+use Rattle.rules.specs.Answers
+use Rattle.rules.specs.Answers.{Refusal, refusalNumber, Accepted, Batch, Advanced, Finished, Committed, Refused}
+use Rattle.rules.specs.Rows.{Row, unless, Out, out, refuse}
+use Rattle.rules.specs.Pending.{insert, route}
+use Rattle.rules.specs.Foreign.{foreign, isUnset}
+use Rattle.rules.specs.Initial.{initialRows, addInitial}
+use Rattle.rules.specs.Begin.{previous, beginRows, begin}
+use Rattle.rules.specs.Refresh.{refreshed}
+use Rattle.rules.specs.Step.{takenAt, spent, rose, nullsOf, advanced, countAdvance, complete, advance, stepRun, stepAt, stepRows, step}
+use Rattle.rules.specs.HandBack.{Emission, malformed, emissionRows, processRows, poisonRows, backRows, handled, countRound, commit, commitAt, lose, handBack}
+use Rattle.rules.proofs.Tests.{by-test, or-left, or-right, not-true, not-false, not-both}
+use Rattle.rules.proofs.Lists.{All, all-append, empty-nil}
+use Rattle.rules.proofs.Table.{Passed, Firsts, by-firsts, firsts-all}
+
+-- A refusal that is not 11, and one that is none of 11, 24 and 26 (how hand back's are told apart).
+pub record Plain (r : Refusal) : Type 0 where
+  pub not-11 : eqb (refusalNumber r) 11 ≡ false
+
+pub record Losing (r : Refusal) : Type 0 where
+  pub not-11 : eqb (refusalNumber r) 11 ≡ false
+  pub not-24 : eqb (refusalNumber r) 24 ≡ false
+  pub not-26 : eqb (refusalNumber r) 26 ≡ false
+
+-- Add initial
+pub record InitialPassed (s : State) (m : Message) : Type 0 where
+  pub passes : foreign s ≡ false
+  pub healthy : s .poisoned ≡ false
+  pub opened : s .initial ≡ true
+  pub source : m .source < s .n
+  pub destination : m .destination < s .n
+  pub payload : length (m .payload) ≤ 16
+  pub room : length (s .pending) < 512
+  pub number : s .next + 1 ≤ most
+
+pub record InitialCases (s : State) (c : Counters) (m : Message) (P : Out → Type 0) : Type 0 where
+  pub alien : foreign s ≡ true → P (refuse s c Answers.ForeignState)
+  pub away : (r : Refusal) → Plain r → P (refuse s c r)
+  pub accept : InitialPassed s m → P (out Accepted (withPending s (insert (numbered m (s .next)) (s .pending)) (suc (s .next))) c)
+
+pub by-initial : (s : State) (c : Counters) (m : Message) (P : Out → Type 0) → InitialCases s c m P → P (addInitial s c m)
+unfolding addInitial refusalNumber
+by-initial s c m P k =
+    by-firsts P (initialRows s m) _ _ (
+      k .alien,
+      λ a. (
+        (λ _. k .away _ (record { not-11 = refl })),
+        λ b. (
+          (λ _. k .away _ (record { not-11 = refl })),
+          λ d. (
+            (λ _. k .away _ (record { not-11 = refl })),
+            λ e. (
+              (λ _. k .away _ (record { not-11 = refl })),
+              λ f.
+                  ((λ _. k .away _ (record { not-11 = refl })), λ g. ((λ _. k .away _ (record { not-11 = refl })), λ h. ((λ _. k .away _ (record { not-11 = refl })), λ i. ((λ _. k .away _ (record { not-11 = refl })), λ j. tt)))),
+            ),
+          ),
+        ),
+      ),
+    )
+    (λ p. k .accept (record {
+      passes = p .0;
+      healthy = p .1 .0;
+      opened = not-false (s .initial) (p .1 .1 .0);
+      source = leb-false (s .n) (m .source) (p .1 .1 .1 .0);
+      destination = leb-false (s .n) (m .destination) (p .1 .1 .1 .1 .0);
+      payload = ltb-false 16 (length (m .payload)) (p .1 .1 .1 .1 .1 .1 .0);
+      room = leb-false 512 (length (s .pending)) (p .1 .1 .1 .1 .1 .1 .1 .0);
+      number = ltb-false most (s .next + 1) (p .1 .1 .1 .1 .1 .1 .1 .1 .0);
+    }))
+
+-- Begin
+pub record BeginPassed (s : State) (h : ℕ) : Type 0 where
+  pub passes : foreign s ≡ false
+  pub healthy : s .poisoned ≡ false
+  pub idle : s .running ≡ false
+  pub later : previous (s .limits) ≤ h
+  pub below : h < top
+
+pub record BeginCases (s : State) (c : Counters) (h b : ℕ) (P : Out → Type 0) : Type 0 where
+  pub alien : foreign s ≡ true → P (refuse s c Answers.ForeignState)
+  pub away : (r : Refusal) → Plain r → P (refuse s c r)
+  pub accept : BeginPassed s h → P (out Accepted (withRun s h b) c)
+
+pub by-begin : (s : State) (c : Counters) (h b : ℕ) (P : Out → Type 0) → BeginCases s c h b P → P (begin s c h b)
+unfolding begin refusalNumber
+by-begin s c h b P k =
+    by-firsts P (beginRows s h) _ _
+    (k .alien, λ x. ((λ _. k .away _ (record { not-11 = refl })), λ y. ((λ _. k .away _ (record { not-11 = refl })), λ z. ((λ _. k .away _ (record { not-11 = refl })), λ u. ((λ _. k .away _ (record { not-11 = refl })), λ v. tt)))))
+    (λ p. k .accept (record {
+      passes = p .0;
+      healthy = p .1 .0;
+      idle = p .1 .1 .0;
+      later = ltb-false h (previous (s .limits)) (p .1 .1 .1 .0);
+      below = leb-false top h (p .1 .1 .1 .1 .0);
+    }))
+
+-- A step in an open run, with nothing in hand.
+pub record Steps (s : State) (h b : ℕ) : Type 0 where
+  pub passes : foreign s ≡ false
+  pub healthy : s .poisoned ≡ false
+  pub open-run : s .running ≡ true
+  pub empty : s .batch ≡ []
+  pub limits : s .limits ≡ stored h b
+
+-- No event was taken, and 24 does not hold: what leads to an advance.
+pub record Advances (s : State) (h b : ℕ) : Type 0 where
+  pub steps : Steps s h b
+  pub none-taken : nonEmpty (takenAt s h b .events) ≡ false
+  pub not-spent : spent s h b ≡ false
+
+pub record StepCases (s : State) (c : Counters) (P : Out → Type 0) : Type 0 where
+  pub alien : foreign s ≡ true → P (refuse s c Answers.ForeignState)
+  pub away : (r : Refusal) → Plain r → P (refuse s c r)
+  pub batch : (h b : ℕ) → Steps s h b → nonEmpty (takenAt s h b .events) ≡ true → P (out (Batch (takenAt s h b .events) (s .gvt)) (withBatch s (takenAt s h b .events) (takenAt s h b .left)) c)
+  pub spends : (h b : ℕ) → Steps s h b → P (out (Refused (Answers.EventBudgetExceeded b)) (closed s) c)
+  pub rise : (h b : ℕ) → Advances s h b → rose s (suc h) ≡ true → P (out (Advanced (advanced s h .gvt)) (advanced s h) (countAdvance c (nullsOf s (suc h))))
+  pub finish : (h b : ℕ) → Advances s h b → rose s (suc h) ≡ false → complete (advanced s h) (suc h) ≡ true → P (out (Finished (advanced s h .gvt)) (closed (advanced s h)) c)
+  pub stuck : (h b : ℕ) → Advances s h b → rose s (suc h) ≡ false → complete (advanced s h) (suc h) ≡ false → P (out (Refused Answers.Poisoned) (poison (advanced s h)) c)
+
+module _ (s : State) (c : Counters) (P : Out → Type 0) (k : StepCases s c P) where
+  step-run : (h b : ℕ) → Steps s h b → P (stepRun s c h b)
+  unfolding stepRun advance
+  step-run h b i =
+      by-test P (λ t. k .batch h b i t) (λ t. by-test P (λ _. k .spends h b i) (λ u.
+      by-test P (λ v. k .rise h b (record { steps = i; none-taken = t; not-spent = u }) v)
+      (λ v. by-test P (λ w. k .finish h b (record { steps = i; none-taken = t; not-spent = u }) v w) (λ w. k .stuck h b (record { steps = i; none-taken = t; not-spent = u }) v w))))
+
+  step-at : (l : Stored) → s .limits ≡ l → foreign s ≡ false → s .poisoned ≡ false → s .running ≡ true → s .batch ≡ [] → P (stepAt s c l)
+  unfolding stepAt refusalNumber
+  step-at unset e a u r z = k .away _ (record { not-11 = refl })
+  step-at (stored h b) e a u r z = step-run h b (record { passes = a; healthy = u; open-run = r; empty = z; limits = e })
+
+  pub by-step : P (step s c)
+  unfolding step refusalNumber
+  by-step =
+      by-firsts P (stepRows s) _ _
+      (k .alien, λ a. ((λ _. k .away _ (record { not-11 = refl })), λ u. ((λ _. k .away _ (record { not-11 = refl })), λ t. tt)))
+      (λ p. step-at (s .limits) refl (p .0) (p .1 .0) (not-false (s .running) (or-left (not (s .running)) (nonEmpty (s .batch)) (p .1 .1 .0))) (empty-nil (s .batch) (or-right (not (s .running)) (nonEmpty (s .batch)) (p .1 .1 .0))))
+
+-- A hand back that is not malformed.
+pub record Replies (s : State) (mask : ℕ) (xs : List Emission) : Type 0 where
+  pub passes : foreign s ≡ false
+  pub healthy : s .poisoned ≡ false
+  pub some-batch : nonEmpty (s .batch) ≡ true
+  pub formed : malformed (s .batch) mask xs ≡ false
+
+-- One that passed all checks, in a run with horizon h and budget b.
+pub record Commits (s : State) (mask : ℕ) (xs : List Emission) (h b : ℕ) : Type 0 where
+  pub reply : Replies s mask xs
+  pub passed : Passed (poisonRows s mask xs)
+  pub limits : s .limits ≡ stored h b
+
+pub record BackCases (s : State) (c : Counters) (mask : ℕ) (xs : List Emission) (P : Out → Type 0) : Type 0 where
+  pub alien : foreign s ≡ true → P (refuse s c Answers.ForeignState)
+  pub dead : s .poisoned ≡ true → P (refuse s c Answers.Poisoned)
+  pub empty : s .batch ≡ [] → P (refuse s c Answers.NoBatch)
+  pub malformed : P (refuse s c Answers.MalformedReply)
+  pub lost : Replies s mask xs → (r : Refusal) → Losing r → P (lose s c r)
+  pub homeless : Replies s mask xs → s .limits ≡ unset → P (refuse s c Answers.NoBatch)
+  pub spends : (h b : ℕ) → Commits s mask xs h b → P (out (Refused (Answers.EventBudgetExceeded b)) (closed (handled s xs)) (countRound c (s .batch) xs))
+  pub commits : (h b : ℕ) → Commits s mask xs h b → let u = refreshed (handled s xs) h (s .edges) (s .edges) (s .horizons) in P (out (Committed (u .gvt)) u (countRound c (s .batch) xs))
+
+-- Every row that poisons is a losing one.
+losing-emissions : (s : State) (e : Event) (xs : List Emission) → All (λ (r : Row). Losing (r .refusal)) (emissionRows s e xs)
+unfolding emissionRows refusalNumber
+losing-emissions s e [] = tt
+losing-emissions s e (x ∷ xs) =
+    let l : (r : Refusal) → eqb (refusalNumber r) 11 ≡ false → eqb (refusalNumber r) 24 ≡ false → eqb (refusalNumber r) 26 ≡ false → Losing r = λ r a b d. record { not-11 = a; not-24 = b; not-26 = d } in
+    by-test (All (λ (r : Row). Losing (r .refusal)))
+    (λ _. (l _ refl refl refl, (l _ refl refl refl, (l _ refl refl refl, (l _ refl refl refl, (l _ refl refl refl, (l _ refl refl refl, losing-emissions s e xs)))))))
+    (λ _. losing-emissions s e xs)
+
+losing-processes : (s : State) (mask : ℕ) (xs : List Emission) (es : List Event) → All (λ (r : Row). Losing (r .refusal)) (processRows s mask xs es)
+unfolding processRows refusalNumber
+losing-processes s mask xs [] = tt
+losing-processes s mask xs (e ∷ es) =
+    (record { not-11 = refl; not-24 = refl; not-26 = refl }, all-append (λ (r : Row). Losing (r .refusal)) (emissionRows s e xs) (processRows s mask xs es) (losing-emissions s e xs) (losing-processes s mask xs es))
+
+losing-rows : (s : State) (mask : ℕ) (xs : List Emission) → All (λ (r : Row). Losing (r .refusal)) (poisonRows s mask xs)
+unfolding refusalNumber
+losing-rows s mask xs =
+    all-append (λ (r : Row). Losing (r .refusal)) (processRows s mask xs (s .batch)) _ (losing-processes s mask xs (s .batch))
+    (record { not-11 = refl; not-24 = refl; not-26 = refl }, (record { not-11 = refl; not-24 = refl; not-26 = refl }, tt))
+
+all-losing : (Q : Refusal → Type 0) → ((r : Refusal) → Losing r → Q r) → (rs : List Row) → All (λ (r : Row). Losing (r .refusal)) rs → All (λ (r : Row). Q (r .refusal)) rs
+all-losing Q f [] i = tt
+all-losing Q f (r ∷ rs) i = (f (r .refusal) (i .0), all-losing Q f rs (i .1))
+
+module _ (s : State) (c : Counters) (mask : ℕ) (xs : List Emission) (P : Out → Type 0) (k : BackCases s c mask xs P) where
+  back-commit : Replies s mask xs → Passed (poisonRows s mask xs) → (l : Stored) → s .limits ≡ l → P (commitAt s c l xs)
+  unfolding commitAt commit
+  back-commit i p unset e = k .homeless i e
+  back-commit i p (stored h b) e = by-test P (λ _. k .spends h b (record { reply = i; passed = p; limits = e })) (λ _. k .commits h b (record { reply = i; passed = p; limits = e }))
+
+  back-checked : Replies s mask xs → P (unless (poisonRows s mask xs) (lose s c) (commitAt s c (s .limits) xs))
+  back-checked i =
+      by-firsts P (poisonRows s mask xs) _ _
+      (firsts-all (λ r. P (lose s c r)) (poisonRows s mask xs) (all-losing (λ r. P (lose s c r)) (k .lost i) (poisonRows s mask xs) (losing-rows s mask xs)))
+      (λ p. back-commit i p (s .limits) refl)
+
+  pub by-back : P (handBack s c mask xs)
+  unfolding handBack
+  by-back =
+      by-firsts P (backRows s mask xs) _ _
+      (k .alien, λ a. (k .dead, λ u. ((λ t. k .empty (empty-nil (s .batch) (not-true (nonEmpty (s .batch)) t))), λ t. ((λ _. k .malformed), λ w. tt))))
+      (λ p. back-checked (record { passes = p .0; healthy = p .1 .0; some-batch = not-false (nonEmpty (s .batch)) (p .1 .1 .0); formed = p .1 .1 .1 .0 }))

@@ -1,0 +1,6 @@
+-- Theorems about the rules, each file on those before it.
+pub mod Tests
+pub mod Lists
+pub mod Table
+pub mod Cases
+pub mod Shape

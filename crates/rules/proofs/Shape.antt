@@ -1,0 +1,168 @@
+-- What 11 tells of a state that it lets pass, and that such facts make 11 pass.
+use mathlib.Core.Path.{_≡_, refl, sym, _∙_}
+use mathlib.Core.Bool.{Bool, true, false, not, _&&_, _||_}
+use mathlib.Core.List.{List, [], _∷_}
+use Prim.Native.Nat.{ℕ, _≤_, _<_}
+use native.Mathlib.Omega.{arith}
+use lib.Dec.{leb, ltb, eqb}
+use lib.ListN.{length}
+use borrow.Author.Tests.{leb-false, ltb-false, eqb-true, eqb-false, lt-leb, le-ltb, eq-eqb, ne-eqb}
+use Rattle.rules.specs.Base.{any, anyOf, nonEmpty, rising}
+use Rattle.rules.specs.State.{Event, Edge, Stored, State}
+use Rattle.rules.specs.Pending.{before}
+use Rattle.rules.specs.Foreign.{longEvent, overLimit, strangeEdge, strangeEvent, strangeId, badEdges, atTop, isUnset, byProcess, clauses, foreign}
+use Rattle.rules.proofs.Tests.{or-left, or-right, or-both, not-false, not-of-true}
+use Rattle.rules.proofs.Lists.{All, all-map, any-none, none-any}
+
+pub record Short (e : Event) : Type 0 where
+  pub payload : length (e .payload) ≤ 16
+
+pub record Known (n : ℕ) (e : Event) : Type 0 where
+  pub source : e .source < n
+  pub destination : e .destination < n
+
+pub record Joined (n : ℕ) (e : Edge) : Type 0 where
+  pub source : e .source < n
+  pub destination : e .destination < n
+
+-- The facts, by the parts of the state that they speak of.
+pub record Sized (n lookahead : ℕ) (hs : List ℕ) : Type 0 where
+  pub some : 0 < n
+  pub few : n ≤ 64
+  pub ahead : 0 < lookahead
+  pub wide : length hs ≡ n
+
+pub record Wired (n : ℕ) (es : List Edge) : Type 0 where
+  pub few : length es ≤ 512
+  pub joined : All (Joined n) es
+  pub once : badEdges es ≡ false
+
+pub record Queued (n next : ℕ) (q : List Event) : Type 0 where
+  pub few : length q ≤ 512
+  pub short : All Short q
+  pub known : All (Known n) q
+  pub order : rising before q ≡ true
+  pub numbers : All (λ (e : Event). e .sequence < next) q
+
+pub record Held (n : ℕ) (bs : List Event) : Type 0 where
+  pub few : length bs ≤ 64
+  pub short : All Short bs
+  pub known : All (Known n) bs
+  pub order : rising byProcess bs ≡ true
+
+pub record Runs (limits : Stored) (bs : List Event) (running : Bool) : Type 0 where
+  pub below : atTop limits ≡ false
+  pub stored : running && isUnset limits ≡ false
+  pub opened : nonEmpty bs && not running ≡ false
+
+pub record Shaped (s : State) : Type 0 where
+  pub sized : Sized (s .n) (s .lookahead) (s .horizons)
+  pub wired : Wired (s .n) (s .edges)
+  pub queued : Queued (s .n) (s .next) (s .pending)
+  pub held : Held (s .n) (s .batch)
+  pub runs : Runs (s .limits) (s .batch) (s .running)
+
+long-short : (e : Event) → longEvent e ≡ false → Short e
+long-short e h = record { payload = ltb-false 16 (length (e .payload)) h }
+
+short-long : (e : Event) → Short e → longEvent e ≡ false
+short-long e h = le-ltb 16 (length (e .payload)) (h .payload)
+
+strange-known : (n : ℕ) (e : Event) → strangeEvent n e ≡ false → Known n e
+strange-known n e h = record { source = leb-false n _ (or-left (leb n (e .source)) (leb n (e .destination)) h); destination = leb-false n _ (or-right (leb n (e .source)) (leb n (e .destination)) h) }
+
+known-strange : (n : ℕ) (e : Event) → Known n e → strangeEvent n e ≡ false
+known-strange n e h = or-both (leb n (e .source)) (leb n (e .destination)) (lt-leb n _ (h .source)) (lt-leb n _ (h .destination))
+
+strange-joined : (n : ℕ) (e : Edge) → strangeEdge n e ≡ false → Joined n e
+strange-joined n e h = record { source = leb-false n _ (or-left (leb n (e .source)) (leb n (e .destination)) h); destination = leb-false n _ (or-right (leb n (e .source)) (leb n (e .destination)) h) }
+
+joined-strange : (n : ℕ) (e : Edge) → Joined n e → strangeEdge n e ≡ false
+joined-strange n e h = or-both (leb n (e .source)) (leb n (e .destination)) (lt-leb n _ (h .source)) (lt-leb n _ (h .destination))
+
+-- From a test of every element to a fact of every element, and back.
+told : {A : Type 0} (f : A → Bool) (P : A → Type 0) → ((a : A) → f a ≡ false → P a) → (xs : List A) → any f xs ≡ false → All P xs
+told f P g xs h = all-map (λ x. f x ≡ false) P g xs (any-none f xs h)
+
+tells : {A : Type 0} (f : A → Bool) (P : A → Type 0) → ((a : A) → P a → f a ≡ false) → (xs : List A) → All P xs → any f xs ≡ false
+tells f P g xs i = none-any f xs (all-map P (λ x. f x ≡ false) g xs i)
+
+-- Whatever of several tests failed.
+alls : (ts : List Bool) → anyOf ts ≡ false → All (λ (t : Bool). t ≡ false) ts
+unfolding anyOf
+alls ts h = any-none (λ t. t) ts h
+
+none-of : (ts : List Bool) → All (λ (t : Bool). t ≡ false) ts → anyOf ts ≡ false
+unfolding anyOf
+none-of ts i = none-any (λ t. t) ts i
+
+pub shaped : (s : State) → foreign s ≡ false → Shaped s
+unfolding foreign overLimit strangeId
+shaped s h =
+    let c = alls (clauses s) h in
+    let l = alls (ltb 512 (length (s .edges)) ∷ ltb 512 (length (s .pending)) ∷ ltb 64 (length (s .batch)) ∷ any longEvent (s .pending) ∷ any longEvent (s .batch) ∷ []) (c .1 .1 .0) in
+    let k = alls (any (strangeEdge (s .n)) (s .edges) ∷ any (strangeEvent (s .n)) (s .pending) ∷ any (strangeEvent (s .n)) (s .batch) ∷ []) (c .1 .1 .1 .0) in
+    record {
+      sized = record {
+        some = let x : eqb (s .n) 0 ≡ false = or-left (eqb (s .n) 0) (ltb 64 (s .n)) (c .0) in let z : (s .n ≡ 0 → ⊥) = eqb-false (s .n) 0 x in omega arith;
+        few = ltb-false 64 (s .n) (or-right (eqb (s .n) 0) (ltb 64 (s .n)) (c .0));
+        ahead = let z : (s .lookahead ≡ 0 → ⊥) = eqb-false (s .lookahead) 0 (c .1 .0) in omega arith;
+        wide = eqb-true (length (s .horizons)) (s .n) (not-false _ (c .1 .1 .1 .1 .1 .1 .1 .1 .1 .1 .1 .0));
+      };
+      wired = record { few = ltb-false 512 _ (l .0); joined = told (strangeEdge (s .n)) (Joined (s .n)) (strange-joined (s .n)) (s .edges) (k .0); once = c .1 .1 .1 .1 .0 };
+      queued = record {
+        few = ltb-false 512 _ (l .1 .0);
+        short = told longEvent Short long-short (s .pending) (l .1 .1 .1 .0);
+        known = told (strangeEvent (s .n)) (Known (s .n)) (strange-known (s .n)) (s .pending) (k .1 .0);
+        order = not-false _ (c .1 .1 .1 .1 .1 .0);
+        numbers = told (λ (e : Event). leb (s .next) (e .sequence)) (λ (e : Event). e .sequence < s .next) (λ e x. leb-false (s .next) (e .sequence) x) (s .pending) (c .1 .1 .1 .1 .1 .1 .0);
+      };
+      held = record {
+        few = ltb-false 64 _ (l .1 .1 .0);
+        short = told longEvent Short long-short (s .batch) (l .1 .1 .1 .1 .0);
+        known = told (strangeEvent (s .n)) (Known (s .n)) (strange-known (s .n)) (s .batch) (k .1 .1 .0);
+        order = not-false _ (c .1 .1 .1 .1 .1 .1 .1 .1 .1 .1 .0);
+      };
+      runs = record { below = c .1 .1 .1 .1 .1 .1 .1 .0; stored = c .1 .1 .1 .1 .1 .1 .1 .1 .0; opened = c .1 .1 .1 .1 .1 .1 .1 .1 .1 .0 };
+    }
+
+pub passes-11 : (s : State) → Shaped s → foreign s ≡ false
+unfolding foreign overLimit strangeId
+passes-11 s i =
+    none-of (clauses s) (
+      or-both (eqb (s .n) 0) (ltb 64 (s .n)) (ne-eqb (s .n) 0 (λ e. omega (arith, i .sized .some))) (le-ltb 64 (s .n) (i .sized .few)),
+      (
+        ne-eqb (s .lookahead) 0 (λ e. omega (arith, i .sized .ahead)),
+        (
+          none-of _ (le-ltb 512 _ (i .wired .few), (le-ltb 512 _ (i .queued .few), (le-ltb 64 _ (i .held .few), (tells longEvent Short short-long (s .pending) (i .queued .short), (tells longEvent Short short-long (s .batch) (i .held .short), tt))))),
+          (
+            none-of _ (tells (strangeEdge (s .n)) (Joined (s .n)) (joined-strange (s .n)) (s .edges) (i .wired .joined), (tells (strangeEvent (s .n)) (Known (s .n)) (known-strange (s .n)) (s .pending) (i .queued .known), (tells (strangeEvent (s .n)) (Known (s .n)) (known-strange (s .n)) (s .batch) (i .held .known), tt))),
+            (
+              i .wired .once,
+              (
+                not-of-true _ (i .queued .order),
+                (
+                  tells (λ (e : Event). leb (s .next) (e .sequence)) (λ (e : Event). e .sequence < s .next) (λ e x. lt-leb (s .next) (e .sequence) x) (s .pending) (i .queued .numbers),
+                  (
+                    i .runs .below,
+                    (
+                      i .runs .stored,
+                      (
+                        i .runs .opened,
+                        (
+                          not-of-true _ (i .held .order),
+                          (
+                            not-of-true _ (eq-eqb (length (s .horizons)) (s .n) (i .sized .wide)),
+                            tt,
+                          ),
+                        ),
+                      ),
+                    ),
+                  ),
+                ),
+              ),
+            ),
+          ),
+        ),
+      ),
+    )
