@@ -4,3 +4,6 @@ pub mod Lists
 pub mod Table
 pub mod Cases
 pub mod Shape
+pub mod Counts
+pub mod Tally
+pub mod TallyCalls

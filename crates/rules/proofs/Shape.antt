@@ -1,5 +1,5 @@
 -- What 11 tells of a state that it lets pass, and that such facts make 11 pass.
-use mathlib.Core.Path.{_≡_, refl, sym, _∙_}
+use mathlib.Core.Path.{_≡_, refl, sym, ap, _∙_}
 use mathlib.Core.Bool.{Bool, true, false, not, _&&_, _||_}
 use mathlib.Core.List.{List, [], _∷_}
 use Prim.Native.Nat.{ℕ, _≤_, _<_}
@@ -8,10 +8,10 @@ use lib.Dec.{leb, ltb, eqb}
 use lib.ListN.{length}
 use borrow.Author.Tests.{leb-false, ltb-false, eqb-true, eqb-false, lt-leb, le-ltb, eq-eqb, ne-eqb}
 use Rattle.rules.specs.Base.{any, anyOf, nonEmpty, rising}
-use Rattle.rules.specs.State.{Event, Edge, Stored, State}
+use Rattle.rules.specs.State.{Event, Edge, Stored, unset, State}
 use Rattle.rules.specs.Pending.{before}
 use Rattle.rules.specs.Foreign.{longEvent, overLimit, strangeEdge, strangeEvent, strangeId, badEdges, atTop, isUnset, byProcess, clauses, foreign}
-use Rattle.rules.proofs.Tests.{or-left, or-right, or-both, not-false, not-of-true}
+use Rattle.rules.proofs.Tests.{or-left, or-right, or-both, and-other, not-false, not-of-true, not-both}
 use Rattle.rules.proofs.Lists.{All, all-map, any-none, none-any}
 
 pub record Short (e : Event) : Type 0 where
@@ -166,3 +166,13 @@ passes-11 s i =
         ),
       ),
     )
+
+-- A batch has an open run, and an open run a horizon.
+unset-is : (l : Stored) → l ≡ unset → isUnset l ≡ true
+unfolding isUnset
+unset-is l e = ap isUnset e
+
+pub homeless-never {κ} : {C : Type κ} (s : State) → Shaped s → nonEmpty (s .batch) ≡ true → s .limits ≡ unset → C
+homeless-never s w b e =
+    let r : s .running ≡ true = not-false (s .running) (and-other (nonEmpty (s .batch)) (not (s .running)) b (w .runs .opened)) in
+    not-both (unset-is (s .limits) e) (and-other (s .running) (isUnset (s .limits)) r (w .runs .stored))
