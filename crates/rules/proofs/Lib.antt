@@ -7,3 +7,7 @@ pub mod Shape
 pub mod Counts
 pub mod Tally
 pub mod TallyCalls
+pub mod Order
+pub mod Take
+pub mod Checks
+pub mod ShapeCalls

@@ -2,7 +2,7 @@
 use mathlib.Core.Path.{_≡_, refl, sym, ap, _∙_}
 use mathlib.Core.Bool.{Bool, true, false}
 use mathlib.Core.List.{List, [], _∷_, map}
-use Prim.Native.Nat.{ℕ, zero, suc, _+_, _-_, min}
+use Prim.Native.Nat.{ℕ, zero, suc, _+_, _-_, _≤_, min}
 use native.Mathlib.Omega.{arith}
 use lib.Dec.{ltb, eqb}
 use lib.ListN.{length}
@@ -68,6 +68,10 @@ take-splits es H (p ∷ ps) room q = go (below (safe es H p) (firstOf q p)) refl
     go none h ih k = ih k q
     go (some e) h ih zero = omega arith
     go (some e) h ih (suc k) = omega (arith, ih k (withoutFirst q p), length-without q p e (eligible-first _ _ e h))
+
+pub take-shorter : (es : List Edge) (H : ℕ) (ps : List ℕ) (room : ℕ) (q : List Event) → length (take es H ps room q .left) ≤ length q
+unfolding Split
+take-shorter es H ps room q = omega (arith, take-splits es H ps room q)
 
 pub taken-splits : (s : State) (h b : ℕ) → length (takenAt s h b .left) + length (takenAt s h b .events) ≡ length (s .pending)
 unfolding Split

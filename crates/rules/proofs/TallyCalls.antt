@@ -16,7 +16,7 @@ use Rattle.rules.specs.Refresh.{refreshed}
 use Rattle.rules.specs.Step.{takenAt, countRaised, newEdges, nullsOf, advanced, countAdvance, step}
 use Rattle.rules.specs.HandBack.{Emission, messages, handled, countRound, lose, handBack}
 use Rattle.rules.specs.Calls.{Call, AddInitial, Begin, Step, HandBack, rule}
-use Rattle.rules.specs.History.{Entry, History, onward, isInitial, isBegin, isHandBack, emissions, refused, isAdvanced, isBatch, inHand, commits}
+use Rattle.rules.specs.History.{Entry, History, onward, isInitial, isBegin, isHandBack, emissions, refused, isCommitted, isAdvanced, isBatch, inHand, commits}
 use Rattle.rules.proofs.Tests.{not-both, and-off}
 use Rattle.rules.proofs.Cases.{Losing, InitialCases, by-initial, BeginCases, by-begin, Steps, StepCases, by-step, Commits, BackCases, by-back}
 use Rattle.rules.proofs.Shape.{Shaped, passes-11, homeless-never}
@@ -26,7 +26,7 @@ use Rattle.rules.proofs.Tally.{length-insert, length-messages, length-q
 -- Add initial
 
 initial-accept : (y : History) (m : Message) (k : ℕ) (q : List Event) → length q ≡ suc (length (y .now .pending)) → Tallied y → Tells y (AddInitial m) (out Accepted (withPending (y .now) q k) (y .counters))
-unfolding Tells isInitial isBegin isHandBack refused isAdvanced isBatch
+unfolding Tells isInitial isBegin isHandBack refused isCommitted isAdvanced isBatch
 initial-accept y m k q l i =
     let e = entryOf (AddInitial m) Accepted (countRaised (y .now .edges) (y .now .edges)) in
     let u = unhandled e (y .entries) refl in
@@ -41,13 +41,13 @@ initial-accept y m k q l i =
     }
 
 initial-away : (y : History) (m : Message) (r : Refusal) → Tallied y → Tells y (AddInitial m) (refuse (y .now) (y .counters) r)
-unfolding isInitial isBegin isHandBack refused isAdvanced isBatch
+unfolding isInitial isBegin isHandBack refused isCommitted isAdvanced isBatch
 initial-away y m r i = away y (AddInitial m) (Refused r) (y .now) (record { no-run = refl; no-event = refl; no-commit = refl; no-advance = refl }) refl refl refl (unmoved y i) i
 
 -- Begin
 
 begin-accept : (y : History) (h b : ℕ) → Tallied y → Tells y (Begin h b) (out Accepted (withRun (y .now) h b) (y .counters))
-unfolding Tells isInitial isBegin isHandBack refused isAdvanced isBatch
+unfolding Tells isInitial isBegin isHandBack refused isCommitted isAdvanced isBatch
 begin-accept y h b i =
     let e = entryOf (Begin h b) Accepted (countRaised (y .now .edges) (y .now .edges)) in
     let u = unhandled e (y .entries) refl in
@@ -62,27 +62,27 @@ begin-accept y h b i =
     }
 
 begin-away : (y : History) (h b : ℕ) (r : Refusal) → Tallied y → Tells y (Begin h b) (refuse (y .now) (y .counters) r)
-unfolding isInitial isBegin isHandBack refused isAdvanced isBatch
+unfolding isInitial isBegin isHandBack refused isCommitted isAdvanced isBatch
 begin-away y h b r i = away y (Begin h b) (Refused r) (y .now) (record { no-run = refl; no-event = refl; no-commit = refl; no-advance = refl }) refl refl refl (unmoved y i) i
 
 -- Step
 
 step-away : (y : History) (r : Refusal) (t : State) → t .batch ≡ y .now .batch → Calm (y .now) t → Tallied y → Tells y Step (out (Refused r) t (y .counters))
-unfolding isInitial isBegin isHandBack refused isAdvanced isBatch
+unfolding isInitial isBegin isHandBack refused isCommitted isAdvanced isBatch
 step-away y r t z c i = away y Step (Refused r) t (record { no-run = refl; no-event = refl; no-commit = refl; no-advance = refl }) refl refl z c i
 
 step-finish : (y : History) (h : ℕ) → Tallied y → Tells y Step (out (Finished (advanced (y .now) h .gvt)) (closed (advanced (y .now) h)) (y .counters))
-unfolding isInitial isBegin isHandBack refused isAdvanced isBatch refreshed
+unfolding isInitial isBegin isHandBack refused isCommitted isAdvanced isBatch refreshed
 step-finish y h i = away y Step (Finished _) (closed (advanced (y .now) h)) (record { no-run = refl; no-event = refl; no-commit = refl; no-advance = refl }) refl refl refl (record { lost = i .kept .lost; healthy = λ p. p; events = λ _. refl; used = refl }) i
 
 step-batch : (y : History) (bs q : List Event) (g : ℕ) → y .now .poisoned ≡ false → y .now .batch ≡ [] → length q + length bs ≡ length (y .now .pending) → Tallied y → Tells y Step (out (Batch bs g) (withBatch (y .now) bs q) (y .counters))
-unfolding isInitial isBegin isHandBack refused isAdvanced
+unfolding isInitial isBegin isHandBack refused isCommitted isAdvanced
 step-batch y bs q g p z l i =
     calm y Step (Batch bs g) (withBatch (y .now) bs q) (record { no-run = refl; no-event = refl; no-commit = refl; no-advance = refl }) (hand-batch Step bs g _ (y .entries))
     (record { lost = λ x. not-both x p; healthy = λ x. x; events = λ _. let n : length (y .now .batch) ≡ 0 = ap length z in omega arith; used = refl }) i
 
 step-rise : (y : History) (h : ℕ) → Tallied y → Tells y Step (out (Advanced (advanced (y .now) h .gvt)) (advanced (y .now) h) (countAdvance (y .counters) (nullsOf (y .now) (suc h))))
-unfolding Tells isInitial isBegin isHandBack refused isAdvanced isBatch refreshed
+unfolding Tells isInitial isBegin isHandBack refused isCommitted isAdvanced isBatch refreshed
 step-rise y h i =
     let e = entryOf Step (Advanced (advanced (y .now) h .gvt)) (nullsOf (y .now) (suc h)) in
     let u = unhandled e (y .entries) refl in
@@ -107,12 +107,12 @@ step-rise y h i =
 -- Hand back
 
 back-away : (y : History) (mask : ℕ) (xs : List Emission) (r : Refusal) (t : State) → eqb (refusalNumber r) 24 ≡ false → eqb (refusalNumber r) 26 ≡ false → t .batch ≡ [] → Calm (y .now) t → Tallied y → Tells y (HandBack mask xs) (out (Refused r) t (y .counters))
-unfolding isInitial isBegin isHandBack refused isAdvanced isBatch number
+unfolding isInitial isBegin isHandBack refused isCommitted isAdvanced isBatch number
 back-away y mask xs r t a b z c i =
     calm y (HandBack mask xs) (Refused r) t (record { no-run = refl; no-event = refl; no-commit = a; no-advance = refl }) (hand-gone (entryOf (HandBack mask xs) (Refused r) _) (y .entries) refl refl b ∙ sym z) c i
 
 back-malformed : (y : History) (mask : ℕ) (xs : List Emission) → Tallied y → Tells y (HandBack mask xs) (refuse (y .now) (y .counters) Answers.MalformedReply)
-unfolding isInitial isBegin isHandBack refused isAdvanced isBatch number refusalNumber
+unfolding isInitial isBegin isHandBack refused isCommitted isAdvanced isBatch number refusalNumber
 back-malformed y mask xs i =
     calm y (HandBack mask xs) (Refused Answers.MalformedReply) (y .now) (record { no-run = refl; no-event = refl; no-commit = refl; no-advance = refl }) (hand-stays (entryOf (HandBack mask xs) (Refused Answers.MalformedReply) _) (y .entries) refl refl ∙ i .kept .hand) (unmoved y i) i
 
@@ -151,14 +151,14 @@ back-done y mask xs a t k d z g i =
     }
 
 back-spends : (y : History) (mask : ℕ) (xs : List Emission) (h b : ℕ) → Commits (y .now) mask xs h b → Tallied y → Tells y (HandBack mask xs) (out (Refused (Answers.EventBudgetExceeded b)) (closed (handled (y .now) xs)) (countRound (y .counters) (y .now .batch) xs))
-unfolding isHandBack refused isAdvanced isBatch number refusalNumber
+unfolding isHandBack refused isCommitted isAdvanced isBatch number refusalNumber
 back-spends y mask xs h b k i =
     back-done y mask xs (Refused (Answers.EventBudgetExceeded b)) (closed (handled (y .now) xs)) refl refl (hand-gone (entryOf (HandBack mask xs) (Refused (Answers.EventBudgetExceeded b)) _) (y .entries) refl refl refl)
     (record { empty = refl; healthy = k .reply .healthy; before = k .reply .healthy; pending = omega (arith, length-queue (y .now .pending) (y .now .next) (messages xs), length-messages xs); used = refl }) i
 
 back-commits : (y : History) (mask : ℕ) (xs : List Emission) (h b : ℕ) → Commits (y .now) mask xs h b → Tallied y
     → let t = refreshed (handled (y .now) xs) h (y .now .edges) (y .now .edges) (y .now .horizons) in Tells y (HandBack mask xs) (out (Committed (t .gvt)) t (countRound (y .counters) (y .now .batch) xs))
-unfolding isHandBack refused isAdvanced isBatch number refreshed
+unfolding isHandBack refused isCommitted isAdvanced isBatch number refreshed
 back-commits y mask xs h b k i =
     back-done y mask xs (Committed _) _ refl refl (hand-gone (entryOf (HandBack mask xs) (Committed _) _) (y .entries) refl refl refl)
     (record { empty = refl; healthy = k .reply .healthy; before = k .reply .healthy; pending = omega (arith, length-queue (y .now .pending) (y .now .next) (messages xs), length-messages xs); used = refl }) i

@@ -1,5 +1,5 @@
 -- What a call answers: one constructor for each answer and each refusal, and the number and the values that document 01's table gives to each.
--- Refusals have the names of the Rust's RuntimeError and PdesError where those have one.
+-- Refusals have the names of the Rust's RuntimeError and PdesError where those have one; its HandlerPanicked is HandlerFailed here, since a host reports it.
 use mathlib.Core.List.{List, [], _∷_}
 use Prim.Native.Nat.{ℕ}
 use Rattle.rules.specs.State.{Event, Counters}
@@ -139,7 +139,7 @@ readingValues (Counted c u) = c .handled ∷ c .emitted ∷ c .remote ∷ c .rou
 readingValues (Pending k) = k ∷ []
 readingValues (Earliest t) = t ∷ []
 
--- Every answer. "Step and hand back carry GVT unless they refuse": it is the last number of a Batch, Advanced, Finished and Committed.
+-- Every answer. Promises equate whole answers of this type, which say more than their number and values. "Step and hand back carry GVT unless they refuse": it is the last number of a Batch, Advanced, Finished and Committed.
 -- Build, add initial and begin answer Accepted, with nothing beside it; plan answers how many entities it wrote.
 pub data Answer : Type 0 where
   Accepted : Answer

@@ -83,7 +83,7 @@ edgesOf L (p ∷ sources) (k ∷ counts) ds =
 unfoldable pub built : Setup → State
 built a = record { n = a .n; lookahead = a .lookahead; edges = edgesOf (a .lookahead) (a .sources) (a .counts) (a .destinations); pending = []; next = 0; horizons = map (λ p. 0) (upTo (a .n)); gvt = 0; limits = unset; used = 0; batch = []; initial = true; running = false; poisoned = false }
 
--- "Left: nothing made"; "a refused build leaves the lent counters untouched".
+-- "nothing made"; "a refused build leaves the lent counters untouched".
 pub record Made : Type 0 where
   pub answer : Answer
   pub made : Maybe State

@@ -1,4 +1,4 @@
--- Lists of calls: add initial, begin, step and hand back with any arguments.
+-- Lists of calls: add initial, begin, step and hand back with any arguments. Numbers have no widths here; the program's types give them theirs.
 use mathlib.Core.List.{List, [], _∷_}
 use Prim.Native.Nat.{ℕ}
 use Rattle.rules.specs.State.{State, Counters, Message}

@@ -42,17 +42,17 @@ malformed batch mask xs =
     ∷ [])
 
 -- "The minimum tick is the event's tick for an emission to oneself, else that tick + L."
-unfoldable pub minimum : ℕ → ℕ → Message → ℕ
-minimum L t m = if eqb (m .destination) (m .source) then t else t + L
+unfoldable pub minimum : ℕ → ℕ → ℕ → Message → ℕ
+minimum L p t m = if eqb (m .destination) p then t else t + L
 
 -- 28 to 32 of the emission m of the process p, whose event has tick t, in a runtime of n processes with the routes given.
 abbrev pub messageRows : ℕ → (ℕ → ℕ → Bool) → ℕ → ℕ → ℕ → Message → List Row
 messageRows n routes L p t m =
     (not (eqb (m .source) p) ⇒ Answers.OutboundSourceMismatch p (m .source))
     ∷ (leb n (m .destination) ⇒ Answers.UnknownOutboundDestination (m .destination))
-    ∷ (not (routes (m .source) (m .destination)) ⇒ Answers.OutboundRouteMissing (m .source) (m .destination))
-    ∷ (ltb top (minimum L t m) ⇒ Answers.LookaheadOverflow p t L)
-    ∷ (ltb (m .tick) (minimum L t m) ⇒ Answers.OutboundLookaheadViolation p t (m .tick) (minimum L t m))
+    ∷ (not (routes p (m .destination)) ⇒ Answers.OutboundRouteMissing p (m .destination))
+    ∷ (ltb top (minimum L p t m) ⇒ Answers.LookaheadOverflow p t L)
+    ∷ (ltb (m .tick) (minimum L p t m) ⇒ Answers.OutboundLookaheadViolation p t (m .tick) (minimum L p t m))
     ∷ []
 
 -- 33: "straggler: emission below the destination's local horizon"
@@ -66,12 +66,12 @@ emissionRows s e (x ∷ xs) =
     if eqb (x .emitter) (e .destination) then (messageRows (s .n) (route (s .edges)) (s .lookahead) (x .emitter) (e .tick) (x .message) ++ (stragglerRow s (x .message) ∷ emissionRows s e xs))
     else emissionRows s e xs
 
--- "process by process in id order 27 and, for its emissions in turn, 28 to 33"
+-- "process by process in id order 27 and, for its emissions in turn, 28 to 33 (so an earlier process's bad emission comes before a later one's failure)"
 unfoldable pub processRows : State → ℕ → List Emission → List Event → List Row
 processRows s mask xs [] = []
 processRows s mask xs (e ∷ es) = (failed mask (e .destination) ⇒ Answers.HandlerFailed (e .destination)) ∷ (emissionRows s e xs ++ processRows s mask xs es)
 
--- "then 19, then 18". All of these poison.
+-- "then 19, then 18". All of these poison. "Freed event places count as free again": the batch is pending no more, so 18 does not count it.
 abbrev pub poisonRows : State → ℕ → List Emission → List Row
 poisonRows s mask xs =
     processRows s mask xs (s .batch)
@@ -91,7 +91,7 @@ backRows s mask xs =
 abbrev pub isRemote : Emission → Bool
 isRemote x = not (eqb (x .message .destination) (x .message .source))
 
--- "Handled, emitted and remote grow by their counts, .. rounds by 1; the worker count is the largest batch so far."
+-- "Handled, emitted and remote (..) grow by their counts, .. rounds by 1; the worker count is the largest batch so far."
 abbrev pub countRound : Counters → List Event → List Emission → Counters
 countRound c batch xs = record { handled = raise (c .handled) (length batch); emitted = raise (c .emitted) (length xs); remote = raise (c .remote) (count isRemote xs); rounds = raise (c .rounds) 1; nulls = c .nulls; workers = max (c .workers) (length batch) }
 
@@ -115,7 +115,7 @@ unfoldable pub commitAt : State → Counters → Stored → List Emission → Ou
 commitAt s c unset xs = refuse s c Answers.NoBatch
 commitAt s c (stored horizon budget) xs = commit s c horizon budget xs
 
--- "Left: poisoned".
+-- What the last column calls "poisoned".
 abbrev pub lose : State → Counters → Refusal → Out
 lose s c r = out (Refused r) (poison s) c
 

@@ -5,9 +5,10 @@ use Prim.Native.Nat.{ℕ, suc, _+_, max}
 use lib.Dec.{eqb}
 use lib.ListN.{length}
 use Rattle.rules.specs.Base.{if_then_else_, count}
-use Rattle.rules.specs.State.{Event, State, Counters}
+use Rattle.rules.specs.State.{Event, State, Counters, zeros}
 use Rattle.rules.specs.Answers.{Answer, Accepted, Batch, Advanced, Finished, Committed, Read, Planned, Refused, number}
 use Rattle.rules.specs.Rows.{Out}
+use Rattle.rules.specs.Build.{Setup, built}
 use Rattle.rules.specs.Step.{countRaised}
 use Rattle.rules.specs.HandBack.{Emission, isRemote}
 use Rattle.rules.specs.Calls.{Call, AddInitial, Begin, Step, HandBack, rule}
@@ -29,6 +30,17 @@ entry s k o = record { call = k; answer = o .answer; raises = countRaised (s .ed
 
 abbrev pub onward : History → Call → Out → History
 onward y k o = record { entries = entry (y .now) k o ∷ y .entries; now = o .after; counters = o .counters }
+
+-- "The rules start from what build makes", of the setup a.
+abbrev pub fresh : Setup → History
+fresh a = record { entries = []; now = built a; counters = zeros }
+
+-- "In it L and E are the lookahead and the edges given to build".
+abbrev pub L : Setup → ℕ
+L a = a .lookahead
+
+abbrev pub E : Setup → ℕ
+E a = length (a .destinations)
 
 unfoldable pub tell : History → List Call → History
 tell y [] = y
@@ -66,6 +78,16 @@ emissions Step = []
 emissions (HandBack mask xs) = xs
 
 -- What an answer is.
+unfoldable pub isCommitted : Answer → Bool
+isCommitted Accepted = false
+isCommitted (Batch es g) = false
+isCommitted (Advanced g) = false
+isCommitted (Finished g) = false
+isCommitted (Committed g) = true
+isCommitted (Read r) = false
+isCommitted (Planned k) = false
+isCommitted (Refused r) = false
+
 unfoldable pub refused : Answer → Bool
 refused Accepted = false
 refused (Batch es g) = false
@@ -132,7 +154,7 @@ inHand (e ∷ es) = if isBatch (e .answer) then events (e .answer) else if isHan
 
 -- A "hand back [that] answered Committed or 24"
 abbrev pub commits : Entry → Bool
-commits e = isHandBack (e .call) && (not (refused (e .answer)) || eqb (number (e .answer)) 24)
+commits e = isHandBack (e .call) && (isCommitted (e .answer) || eqb (number (e .answer)) 24)
 
 -- "Handled are the events of the batches whose hand back answered Committed or 24"
 unfoldable pub handled : List Entry → ℕ
@@ -167,11 +189,11 @@ unfoldable pub used : List Entry → ℕ
 used [] = 0
 used (e ∷ es) = if begins e then 0 else (if commits e then length (inHand es) else 0) + used es
 
--- "A process was handed its events in the batches answered, in that order, a batch lost later among them": the ticks of p's events.
-unfoldable pub ticksAt : ℕ → List Event → List ℕ
-ticksAt p [] = []
-ticksAt p (e ∷ es) = if eqb (e .destination) p then e .tick ∷ ticksAt p es else ticksAt p es
+-- "A process was handed its events in the batches answered, in that order, a batch lost later among them".
+unfoldable pub eventsAt : ℕ → List Event → List Event
+eventsAt p [] = []
+eventsAt p (e ∷ es) = if eqb (e .destination) p then e ∷ eventsAt p es else eventsAt p es
 
-unfoldable pub handedTo : ℕ → List Entry → List ℕ
+unfoldable pub handedTo : ℕ → List Entry → List Event
 handedTo p [] = []
-handedTo p (e ∷ es) = handedTo p es ++ ticksAt p (events (e .answer))
+handedTo p (e ∷ es) = handedTo p es ++ eventsAt p (events (e .answer))

@@ -15,8 +15,8 @@ use Rattle.rules.specs.HandBack.{failed, fall, inBatch, malformed, minim
 use Rattle.rules.specs.Reads.{read, readGvt, readCounters, readPending, readEarliest}
 use Rattle.rules.specs.Plan.{sooner, place, sorted, sameEntity, twice, orNone, plan, owner}
 use Rattle.rules.specs.Calls.{rule, carryOut}
-use Rattle.rules.specs.History.{tell, isInitial, isBegin, isHandBack, horizon, emissions, refused, isAdvanced, isBatch, events, R, initials, H, inHand, handled, emitted, remote, rounds, nulls, workers, used, ticksAt, handedTo}
+use Rattle.rules.specs.History.{tell, isInitial, isBegin, isHandBack, horizon, emissions, refused, isAdvanced, isBatch, events, R, initials, H, inHand, handled, emitted, remote, rounds, nulls, workers, used, eventsAt, handedTo, isCommitted}
 
 unfoldable pub all-rules : Type 0
-unfolding if_then_else_ isSome upFrom upTo any anyOf every member nonEmpty sum count rising refusalNumber refusalValues readingValues number values unless missing unexpected malformedRows leastRowless destinationRows topologyRows edgesOf built build before insert firstOf withoutFirst tickOr firstTick queue route safe below eligible anyEligible overLimit strangeId badEdges atTop isUnset foreign addInitial previous begin least raised refreshTo gvtOf refreshed takeOne take aim boundTo raisedEdges countRaised anyRaised rose complete advance stepRun stepAt step failed fall inBatch malformed minimum emissionRows processRows commit commitAt handBack read readGvt readCounters readPending readEarliest sooner place sorted sameEntity twice orNone plan owner rule carryOut tell isInitial isBegin isHandBack horizon emissions refused isAdvanced isBatch events R initials H inHand handled emitted remote rounds nulls workers used ticksAt handedTo
+unfolding if_then_else_ isSome upFrom upTo any anyOf every member nonEmpty sum count rising refusalNumber refusalValues readingValues number values unless missing unexpected malformedRows leastRowless destinationRows topologyRows edgesOf built build before insert firstOf withoutFirst tickOr firstTick queue route safe below eligible anyEligible overLimit strangeId badEdges atTop isUnset foreign addInitial previous begin least raised refreshTo gvtOf refreshed takeOne take aim boundTo raisedEdges countRaised anyRaised rose complete advance stepRun stepAt step failed fall inBatch malformed minimum emissionRows processRows commit commitAt handBack read readGvt readCounters readPending readEarliest sooner place sorted sameEntity twice orNone plan owner rule carryOut tell isInitial isBegin isHandBack horizon emissions refused isAdvanced isBatch events R initials H inHand handled emitted remote rounds nulls workers used eventsAt handedTo isCommitted
 all-rules = ℕ

@@ -1,4 +1,4 @@
--- Refresh: document 01, "Step and hand back", its last paragraph but one.
+-- Refresh: document 01, "Step and hand back", the paragraph that begins with this word.
 use mathlib.Core.List.{List, [], _∷_, map}
 use Prim.Native.Nat.{ℕ, suc, _-_, min, max}
 use Rattle.rules.specs.State.{Event, Edge, State, withFronts}

@@ -27,6 +27,6 @@ pub record Out : Type 0 where
 abbrev pub out : Answer → State → Counters → Out
 out a s c = record { answer = a; after = s; counters = c }
 
--- "Left: state as given".
+-- What the last column calls "state as given".
 abbrev pub refuse : State → Counters → Refusal → Out
 refuse s c r = out (Refused r) s c

@@ -23,7 +23,7 @@ most-entities = 1024
 abbrev pub top : ℕ
 top = 2 ^ 128 - 1
 
--- "budget and counters 64": the largest count, and the largest sequence number.
+-- "budget and counters 64": the largest count, and the largest next sequence number.
 abbrev pub most : ℕ
 most = 2 ^ 64 - 1
 
