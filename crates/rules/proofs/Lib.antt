@@ -4,3 +4,4 @@ pub mod Lists
 pub mod Table
 pub mod Cases
 pub mod Shape
+pub mod Fronts
