@@ -5,3 +5,4 @@ pub mod Table
 pub mod Cases
 pub mod Shape
 pub mod Fronts
+pub mod Unstuck
