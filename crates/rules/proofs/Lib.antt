@@ -6,3 +6,5 @@ pub mod Cases
 pub mod Shape
 pub mod Fronts
 pub mod Unstuck
+pub mod Pace
+pub mod PaceMoves

@@ -1,0 +1,83 @@
+-- How the counts move with each kind of call, and that they still fit.
+use mathlib.Core.Path.{_≡_, refl, sym, ap, subst, _∙_}
+use mathlib.Core.Bool.{Bool, true, false, not, _&&_, _||_, true≢false}
+use mathlib.Core.List.{List, [], _∷_}
+use Prim.Native.Nat.{ℕ, zero, suc, _+_, _-_, _*_, _≤_, _<_, min, max}
+use native.Mathlib.Omega.{arith}
+use native.Mathlib.Nat.{zero-add}
+use lib.Dec.{leb, ltb, eqb}
+use lib.ListN.{length}
+use Rattle.rules.specs.Base.{if_then_else_, count, every}
+use Rattle.rules.specs.State.{Edge, Stored, unset, stored, State}
+use Rattle.rules.specs.Answers.{Answer, Accepted, Advanced, number}
+use Rattle.rules.specs.HandBack.{Emission}
+use Rattle.rules.specs.Calls.{Call, Begin, Step, HandBack}
+use Rattle.rules.specs.History.{Entry, isBegin, isHandBack, horizon, refused, isAdvanced, begins, commits, R, H, inHand, handled, nulls}
+use Rattle.rules.proofs.Tests.{not-both}
+use Rattle.rules.proofs.Fronts.{lowest, low-more}
+use Rattle.rules.proofs.Pace.{Counts, countsOf, sends, lifts, endOf, front, Pace}
+
+-- The counts with one call more: whether it is an accepted begin, an Advanced answer, a hand back that commits; its horizon, its raises, how many were in hand.
+unfoldable grown : Bool → Bool → Bool → ℕ → ℕ → ℕ → Counts → Counts
+grown b a c h r n k = record {
+  runs = (if b then 1 else 0) + k .runs;
+  end = if b then suc h else k .end;
+  handled = (if c then n else 0) + k .handled;
+  commits = (if c then 1 else 0) + k .commits;
+  advances = (if a then 1 else 0) + k .advances;
+  nulls = (if a then r else 0) + k .nulls;
+  sends = (if a then min r 1 else 0) + k .sends;
+  lifts = (if a then 1 - r else 0) + k .lifts;
+}
+
+counts-more : (e : Entry) (es : List Entry) → countsOf (e ∷ es) ≡ grown (begins e) (isAdvanced (e .answer)) (commits e) (horizon (e .call)) (e .raises) (length (inHand es)) (countsOf es)
+unfolding grown countsOf R H handled nulls sends lifts count
+counts-more e es = refl
+
+-- The counts after an accepted begin, after an Advanced answer for which r bounds rose, and after a hand back that commits n events.
+abbrev pub begun : Counts → ℕ → Counts
+begun k h = record { runs = 1 + k .runs; end = suc h; handled = k .handled; commits = k .commits; advances = k .advances; nulls = k .nulls; sends = k .sends; lifts = k .lifts }
+
+abbrev pub moved : Counts → ℕ → Counts
+moved k r = record { runs = k .runs; end = k .end; handled = k .handled; commits = k .commits; advances = 1 + k .advances; nulls = r + k .nulls; sends = min r 1 + k .sends; lifts = (1 - r) + k .lifts }
+
+abbrev pub returned : Counts → ℕ → Counts
+returned k n = record { runs = k .runs; end = k .end; handled = n + k .handled; commits = 1 + k .commits; advances = k .advances; nulls = k .nulls; sends = k .sends; lifts = k .lifts }
+
+module _ (h r n : ℕ) (k : Counts) where
+  grown-quiet : grown false false false h r n k ≡ k
+  unfolding grown if_then_else_
+  grown-quiet = rw (zero-add (k .runs), zero-add (k .handled), zero-add (k .commits), zero-add (k .advances), zero-add (k .nulls), zero-add (k .sends), zero-add (k .lifts)) refl
+
+  grown-begun : grown true false false h r n k ≡ begun k h
+  unfolding grown if_then_else_
+  grown-begun = rw (zero-add (k .handled), zero-add (k .commits), zero-add (k .advances), zero-add (k .nulls), zero-add (k .sends), zero-add (k .lifts)) refl
+
+  grown-moved : grown false true false h r n k ≡ moved k r
+  unfolding grown if_then_else_
+  grown-moved = rw (zero-add (k .runs), zero-add (k .handled), zero-add (k .commits)) refl
+
+  grown-returned : grown false false true h r n k ≡ returned k n
+  unfolding grown if_then_else_
+  grown-returned = rw (zero-add (k .runs), zero-add (k .advances), zero-add (k .nulls), zero-add (k .sends), zero-add (k .lifts)) refl
+
+-- What a call is, by the three tests.
+pub record Kind (e : Entry) (b a c : Bool) : Type 0 where
+  pub begins : begins e ≡ b
+  pub advanced : isAdvanced (e .answer) ≡ a
+  pub commits : commits e ≡ c
+
+counts-kind : (e : Entry) (es : List Entry) (b a c : Bool) → Kind e b a c → countsOf (e ∷ es) ≡ grown b a c (horizon (e .call)) (e .raises) (length (inHand es)) (countsOf es)
+counts-kind e es b a c i = rw (sym (i .begins), sym (i .advanced), sym (i .commits)) (counts-more e es)
+
+pub counts-quiet : (e : Entry) (es : List Entry) → Kind e false false false → countsOf (e ∷ es) ≡ countsOf es
+counts-quiet e es i = counts-kind e es false false false i ∙ grown-quiet (horizon (e .call)) (e .raises) (length (inHand es)) (countsOf es)
+
+pub counts-begun : (e : Entry) (es : List Entry) → Kind e true false false → countsOf (e ∷ es) ≡ begun (countsOf es) (horizon (e .call))
+counts-begun e es i = counts-kind e es true false false i ∙ grown-begun (horizon (e .call)) (e .raises) (length (inHand es)) (countsOf es)
+
+pub counts-moved : (e : Entry) (es : List Entry) → Kind e false true false → countsOf (e ∷ es) ≡ moved (countsOf es) (e .raises)
+counts-moved e es i = counts-kind e es false true false i ∙ grown-moved (horizon (e .call)) (e .raises) (length (inHand es)) (countsOf es)
+
+pub counts-returned : (e : Entry) (es : List Entry) → Kind e false false true → countsOf (e ∷ es) ≡ returned (countsOf es) (length (inHand es))
+counts-returned e es i = counts-kind e es false false true i ∙ grown-returned (horizon (e .call)) (e .raises) (length (inHand es)) (countsOf es)
