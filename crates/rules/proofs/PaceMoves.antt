@@ -81,3 +81,78 @@ counts-moved e es i = counts-kind e es false true false i ∙ grown-moved (horiz
 
 pub counts-returned : (e : Entry) (es : List Entry) → Kind e false false true → countsOf (e ∷ es) ≡ returned (countsOf es) (length (inHand es))
 counts-returned e es i = counts-kind e es false false true i ∙ grown-returned (horizon (e .call)) (e .raises) (length (inHand es)) (countsOf es)
+
+-- Fronts that move while the counts stay.
+pub pace-stay : (k : Counts) (L : ℕ) (es fs : List Edge) (hs gs : List ℕ) (l : Stored) → Pace k L es hs l → length fs ≡ length es → front (k .end) L es ≤ front (k .end) L fs → (every (leb (k .end)) hs ≡ true → every (leb (k .end)) gs ≡ true) → Pace k L fs gs l
+pace-stay k L es fs hs gs l i ns up st = record {
+  end = i .end;
+  sent = omega (arith, i .sent);
+  sending = λ h. omega (arith, i .sending (omega arith));
+  lifted = i .lifted;
+  lifting = λ h. i .lifting (stays (every (leb (k .end)) hs) (every (leb (k .end)) gs) st h);
+  nulls = rw ns (i .nulls);
+  advances = i .advances;
+  commits = i .commits;
+}
+  where
+    stays : (a b : Bool) → (a ≡ true → b ≡ true) → b ≡ false → a ≡ false
+    stays true b f h = not-both (f refl) h
+    stays false b f h = refl
+
+-- A begin: the end does not fall, and one run more pays for a send and a lift.
+pub pace-begun : (k : Counts) (L h b : ℕ) (es : List Edge) (hs : List ℕ) (l : Stored) → Pace k L es hs l → k .end ≤ suc h → Pace (begun k h) L es hs (stored h b)
+unfolding endOf
+pace-begun k L h b es hs l i up =
+    let m : front (k .end) L es ≤ front (suc h) L es = low-more es (max (k .end) L) (max (suc h) L) (omega arith) in
+    record {
+      end = refl;
+      sent = omega (arith, i .sent);
+      sending = λ _. omega (arith, i .sent);
+      lifted = omega (arith, i .lifted);
+      lifting = λ _. omega (arith, i .lifted);
+      nulls = i .nulls;
+      advances = i .advances;
+      commits = i .commits;
+    }
+
+-- Some bound rose: the front was below the end, and rose by the lookahead or to the end.
+pub pace-sent : (k : Counts) (L r : ℕ) (es fs : List Edge) (gs : List ℕ) (l : Stored) → (k .sends + 2) * L ≤ front (k .end) L es + k .runs * L → 0 < r → r ≤ length es → length fs ≡ length es → front (k .end) L es ≤ front (k .end) L fs → min (k .end) (front (k .end) L es + L) ≤ front (k .end) L fs → Pace k L fs gs l → Pace (moved k r) L fs gs l
+pace-sent k L r es fs gs l s rp rl ns grow far j =
+    let o : min r 1 ≡ 1 = omega arith in
+    let z : 1 - r ≡ 0 = omega arith in
+    record {
+      end = j .end;
+      sent = rw o (omega (arith, s, j .sent));
+      sending = λ h. rw o (omega (arith, s, j .sending h));
+      lifted = omega (arith, j .lifted);
+      lifting = λ h. omega (arith, j .lifting h);
+      nulls = rw o (omega (arith, j .nulls));
+      advances = omega (arith, j .advances);
+      commits = j .commits;
+    }
+
+-- No bound rose: the local horizons did, and are at the end now.
+pub pace-lift : (k : Counts) (L : ℕ) (fs : List Edge) (gs : List ℕ) (l : Stored) → k .lifts + 1 ≤ k .runs → every (leb (k .end)) gs ≡ true → Pace k L fs gs l → Pace (moved k 0) L fs gs l
+pace-lift k L fs gs l lifting now j = record {
+  end = j .end;
+  sent = omega (arith, j .sent);
+  sending = λ h. omega (arith, j .sending h);
+  lifted = omega arith;
+  lifting = λ h. not-both now h;
+  nulls = omega (arith, j .nulls);
+  advances = omega (arith, j .advances);
+  commits = j .commits;
+}
+
+-- A hand back that commits handled at least one event.
+pub pace-returned : (k : Counts) (L n : ℕ) (es : List Edge) (hs : List ℕ) (l : Stored) → 0 < n → Pace k L es hs l → Pace (returned k n) L es hs l
+pace-returned k L n es hs l p i = record {
+  end = i .end;
+  sent = i .sent;
+  sending = i .sending;
+  lifted = i .lifted;
+  lifting = i .lifting;
+  nulls = i .nulls;
+  advances = i .advances;
+  commits = omega (arith, i .commits);
+}
