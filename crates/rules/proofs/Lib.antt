@@ -8,3 +8,4 @@ pub mod Fronts
 pub mod Unstuck
 pub mod Pace
 pub mod PaceMoves
+pub mod PaceCalls
