@@ -1,5 +1,5 @@
 -- An advance raises the least bound by the lookahead, or to the end.
-use mathlib.Core.Path.{_≡_, refl, sym, ap, subst, _∙_}
+use mathlib.Core.Path.{_≡_, refl, ap, subst}
 use mathlib.Core.Bool.{Bool, true, false, _&&_, _||_, true≢false}
 use mathlib.Core.List.{List, [], _∷_}
 use Prim.Native.Nat.{ℕ, zero, suc, _+_, _-_, _≤_, _<_, min, max}
@@ -12,7 +12,7 @@ use Rattle.rules.specs.State.{Event, Edge, State, top}
 use Rattle.rules.specs.Pending.{firstOf, tickOr, firstTick}
 use Rattle.rules.specs.Frontiers.{safe, below, eligible, anyEligible}
 use Rattle.rules.specs.Refresh.{raised}
-use Rattle.rules.specs.Step.{takeOne, take, takenAt, spent, aim, boundTo, raisedEdges, countRaised, anyRaised}
+use Rattle.rules.specs.Step.{takeOne, take, aim, boundTo, raisedEdges, countRaised, anyRaised}
 use Rattle.rules.proofs.Tests.{by-test, by-bool, or-both, and-left, and-right, and-both, and-other}
 use Rattle.rules.proofs.Lists.{All, any-none}
 use Rattle.rules.proofs.Cases.{Advances}

@@ -1,17 +1,17 @@
 -- Rounds and null messages are few: the counts that show it, how they fit the state, and what follows.
-use mathlib.Core.Path.{_≡_, refl, sym, ap, _∙_}
-use mathlib.Core.Bool.{Bool, true, false, true≢false}
+use mathlib.Core.Path.{_≡_, refl, sym, ap}
+use mathlib.Core.Bool.{Bool, true, false}
 use mathlib.Core.List.{List, [], _∷_}
-use Prim.Native.Nat.{ℕ, zero, suc, _+_, _-_, _*_, _/_, _≤_, _<_, min, max}
+use Prim.Native.Nat.{ℕ, suc, _+_, _-_, _*_, _/_, _≤_, _<_, min, max}
 use native.Mathlib.Omega.{arith}
 use native.Mathlib.Nat.{le-div-iff-mul-le, mul-le-mul-left, le-of-mul-le-mul-right}
-use lib.Dec.{leb, ltb}
+use lib.Dec.{leb}
 use lib.ListN.{length}
 use borrow.Author.Tests.{leb-true, leb-false, le-leb}
 use Rattle.rules.specs.Base.{if_then_else_, count, every}
 use Rattle.rules.specs.State.{Edge, Stored, unset, stored, State, Counters}
 use Rattle.rules.specs.History.{Entry, History, isAdvanced, commits, R, H, handled, rounds, nulls}
-use Rattle.rules.proofs.Tests.{by-bool, not-both}
+use Rattle.rules.proofs.Tests.{not-both}
 use Rattle.rules.proofs.Lists.{All}
 use Rattle.rules.proofs.Shape.{Shaped}
 use Rattle.rules.proofs.Fronts.{lowest, low-cap}
@@ -76,9 +76,9 @@ sends-few S L F E R l h k = go (leb L E) refl (leb R S) refl
     go true e true d = sends-far (S + 1 - R) S L F E R l h (omega (arith, leb-true L E e)) (omega (arith, leb-true R S d))
     go true e false d = omega (arith, leb-false R S d)
     go false e u d =
-      let m : S * L ≤ R * L = omega (arith, leb-false L E e) in
-      let q : S ≤ R = le-of-mul-le-mul-right m l in
-      omega arith
+        let m : S * L ≤ R * L = omega (arith, leb-false L E e) in
+        let q : S ≤ R = le-of-mul-le-mul-right m l in
+        omega arith
 
 module _ (k : Counts) (L : ℕ) (es : List Edge) (hs : List ℕ) (l : Stored) (p : 0 < L) (i : Pace k L es hs l) where
   pace-sends : k .sends ≤ k .end / L + k .runs

@@ -1,16 +1,16 @@
 -- Every call keeps the pace.
 use mathlib.Core.Path.{_≡_, refl, sym, ap, subst, _∙_}
-use mathlib.Core.Bool.{Bool, true, false, not, _&&_, _||_}
-use mathlib.Core.List.{List, [], _∷_}
-use Prim.Native.Nat.{ℕ, zero, suc, _+_, _-_, _*_, _≤_, _<_, min, max}
+use mathlib.Core.Bool.{true, false}
+use mathlib.Core.List.{List}
+use Prim.Native.Nat.{ℕ, suc, _+_, _≤_, _<_, min, max}
 use native.Mathlib.Omega.{arith}
 use lib.Dec.{leb, ltb, eqb}
 use lib.ListN.{length}
 use borrow.Author.Tests.{ltb-true, ltb-false, leb-true, leb-false, le-ltb}
 use Rattle.rules.specs.Base.{every, nonEmpty}
-use Rattle.rules.specs.State.{Event, Edge, Message, Stored, unset, stored, State, Counters, withRun}
+use Rattle.rules.specs.State.{Message, Stored, unset, stored, State, Counters, withRun}
 use Rattle.rules.specs.Answers
-use Rattle.rules.specs.Answers.{Refusal, refusalNumber, Answer, Accepted, Batch, Advanced, Finished, Committed, Refused, number}
+use Rattle.rules.specs.Answers.{Refusal, refusalNumber, Answer, Accepted, Advanced, Committed, Refused, number}
 use Rattle.rules.specs.Rows.{Out, out}
 use Rattle.rules.specs.Begin.{previous}
 use Rattle.rules.specs.Refresh.{raised, refreshTo, refreshed}
@@ -20,12 +20,12 @@ use Rattle.rules.specs.Calls.{Call, AddInitial, Begin, Step, HandBack, r
 use Rattle.rules.specs.History.{Entry, History, entry, onward, isBegin, isHandBack, horizon, refused, isAdvanced, inHand}
 use Rattle.rules.proofs.Tests.{by-bool, not-both, or-else}
 use Rattle.rules.proofs.Lists.{some-long}
-use Rattle.rules.proofs.Cases.{Plain, Losing, InitialCases, by-initial, BeginPassed, BeginCases, by-begin, Steps, Advances, StepCases, by-step, Commits, BackCases, by-back}
+use Rattle.rules.proofs.Cases.{by-initial, BeginPassed, by-begin, Advances, by-step, by-back}
 use Rattle.rules.proofs.Shape.{Shaped, passes-11}
 use Rattle.rules.proofs.Fronts.{aim-low, aim-le, low-raised, low-grows, count-le, count-none, length-edges, all-stay, none-raised}
 use Rattle.rules.proofs.Unstuck.{horizons-high}
 use Rattle.rules.proofs.Pace.{Counts, countsOf, endOf, front, Pace, Paced}
-use Rattle.rules.proofs.PaceMoves.{begun, moved, returned, Kind, counts-quiet, counts-begun, counts-moved, counts-returned, pace-stay, pace-begun, pace-sent, pace-lift, pace-returned}
+use Rattle.rules.proofs.PaceMoves.{begun, moved, Kind, counts-quiet, counts-begun, counts-moved, counts-returned, pace-stay, pace-begun, pace-sent, pace-lift, pace-returned}
 
 -- An advance
 module _ (s : State) (h b : ℕ) (w : Shaped s) (a : Advances s h b) (k : Counts) (i : Pace k (s .lookahead) (s .edges) (s .horizons) (s .limits)) where

@@ -1,20 +1,17 @@
 -- How the counts move with each kind of call, and that they still fit.
-use mathlib.Core.Path.{_≡_, refl, sym, ap, subst, _∙_}
-use mathlib.Core.Bool.{Bool, true, false, not, _&&_, _||_, true≢false}
-use mathlib.Core.List.{List, [], _∷_}
-use Prim.Native.Nat.{ℕ, zero, suc, _+_, _-_, _*_, _≤_, _<_, min, max}
+use mathlib.Core.Path.{_≡_, refl, sym, _∙_}
+use mathlib.Core.Bool.{Bool, true, false}
+use mathlib.Core.List.{List, _∷_}
+use Prim.Native.Nat.{ℕ, suc, _+_, _-_, _*_, _≤_, _<_, min, max}
 use native.Mathlib.Omega.{arith}
 use native.Mathlib.Nat.{zero-add}
-use lib.Dec.{leb, ltb, eqb}
+use lib.Dec.{leb}
 use lib.ListN.{length}
 use Rattle.rules.specs.Base.{if_then_else_, count, every}
-use Rattle.rules.specs.State.{Edge, Stored, unset, stored, State}
-use Rattle.rules.specs.Answers.{Answer, Accepted, Advanced, number}
-use Rattle.rules.specs.HandBack.{Emission}
-use Rattle.rules.specs.Calls.{Call, Begin, Step, HandBack}
-use Rattle.rules.specs.History.{Entry, isBegin, isHandBack, horizon, refused, isAdvanced, begins, commits, R, H, inHand, handled, nulls}
+use Rattle.rules.specs.State.{Edge, Stored, stored}
+use Rattle.rules.specs.History.{Entry, horizon, isAdvanced, begins, commits, R, H, inHand, handled, nulls}
 use Rattle.rules.proofs.Tests.{not-both}
-use Rattle.rules.proofs.Fronts.{lowest, low-more}
+use Rattle.rules.proofs.Fronts.{low-more}
 use Rattle.rules.proofs.Pace.{Counts, countsOf, sends, lifts, endOf, front, Pace}
 
 -- The counts with one call more: whether it is an accepted begin, an Advanced answer, a hand back that commits; its horizon, its raises, how many were in hand.

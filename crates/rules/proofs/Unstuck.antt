@@ -1,22 +1,20 @@
 -- Step's last branch is never reached, on any state that 11 lets pass: where nothing rises, the run is complete.
-use mathlib.Core.Path.{_≡_, refl, sym, _∙_}
-use mathlib.Core.Bool.{Bool, true, false, not, _&&_, _||_, true≢false}
+use mathlib.Core.Path.{_≡_, refl}
+use mathlib.Core.Bool.{true, false, not}
 use mathlib.Core.List.{List, [], _∷_}
-use Prim.Native.Nat.{ℕ, zero, suc, _+_, _≤_, _<_, min, max}
+use Prim.Native.Nat.{ℕ, suc, _≤_, _<_, min}
 use native.Mathlib.Omega.{arith}
 use lib.Dec.{leb, ltb, eqb}
-use lib.ListN.{length}
 use borrow.Author.Tests.{ltb-true, ltb-false, eqb-true, eqb-false, le-leb}
-use Rattle.rules.specs.Base.{if_then_else_, Maybe, none, some, every, rising, nonEmpty}
-use Rattle.rules.specs.State.{Event, Edge, Stored, unset, stored, State, Counters}
+use Rattle.rules.specs.Base.{Maybe, every, rising, nonEmpty}
+use Rattle.rules.specs.State.{Event, Stored, unset, stored, State, Counters}
 use Rattle.rules.specs.Answers.{Answer, refusalNumber, number}
 use Rattle.rules.specs.Rows.{Out, out}
 use Rattle.rules.specs.Pending.{before, firstOf, tickOr, firstTick}
-use Rattle.rules.specs.Frontiers.{safe}
 use Rattle.rules.specs.Foreign.{foreign}
 use Rattle.rules.specs.Refresh.{raised, refreshTo, refreshed}
-use Rattle.rules.specs.Step.{aim, countRaised, anyRaised, nullsOf, newHorizons, rose, advanced, complete, advance, stepRun, stepAt, stepRows, step}
-use Rattle.rules.proofs.Tests.{by-test, by-bool, not-both, not-false, or-left, or-right, or-cases, and-left, and-right, and-both}
+use Rattle.rules.specs.Step.{aim, anyRaised, nullsOf, newHorizons, rose, advanced, complete, advance, stepRun, stepAt, stepRows, step}
+use Rattle.rules.proofs.Tests.{by-test, not-both, not-false, or-left, or-right, or-cases, and-left, and-right, and-both}
 use Rattle.rules.proofs.Lists.{All, all-map, all-both, all-every, empty-nil}
 use Rattle.rules.proofs.Table.{by-firsts}
 use Rattle.rules.proofs.Cases.{Steps, Advances}
