@@ -10,4 +10,9 @@ pub mod TallyCalls
 pub mod Order
 pub mod Take
 pub mod Checks
+pub mod Fronts
+pub mod Unstuck
+pub mod Pace
+pub mod PaceMoves
+pub mod PaceCalls
 pub mod ShapeCalls

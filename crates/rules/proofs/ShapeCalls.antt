@@ -22,6 +22,7 @@ use Rattle.rules.proofs.Cases.{InitialPassed, InitialCases, by-initial,
 use Rattle.rules.proofs.Shape.{Short, Known, Joined, Sized, Wired, Queued, Held, Runs, Shaped, homeless-never}
 use Rattle.rules.proofs.Tally.{length-insert, take-shorter}
 use Rattle.rules.proofs.Order.{Pairs, pairs-rising, Sorted, sorted, sorted-rises, all-insert, Apart, sorted-insert}
+use Rattle.rules.proofs.Fronts.{length-edges}
 use Rattle.rules.proofs.Take.{Both, take-all, take-sorted, take-few, Ascend, take-rises, upFrom-length}
 
 -- Pending events
@@ -56,11 +57,6 @@ length-raised : (to : ℕ → ℕ) (i : ℕ) (hs : List ℕ) → length (raised 
 unfolding raised
 length-raised to i [] = refl
 length-raised to i (h ∷ hs) = ap suc (length-raised to (suc i) hs)
-
-length-edges : (s : State) (H : ℕ) (es : List Edge) → length (raisedEdges s H es) ≡ length es
-unfolding raisedEdges
-length-edges s H [] = refl
-length-edges s H (e ∷ es) = ap suc (length-edges s H es)
 
 joined-raised : (s : State) (H n : ℕ) (es : List Edge) → All (Joined n) es → All (Joined n) (raisedEdges s H es)
 unfolding raisedEdges

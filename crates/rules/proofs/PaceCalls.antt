@@ -1,0 +1,210 @@
+-- Every call keeps the pace.
+use mathlib.Core.Path.{_≡_, refl, sym, ap, subst, _∙_}
+use mathlib.Core.Bool.{true, false}
+use mathlib.Core.List.{List}
+use Prim.Native.Nat.{ℕ, suc, _+_, _≤_, _<_, min, max}
+use native.Mathlib.Omega.{arith}
+use lib.Dec.{leb, ltb, eqb}
+use lib.ListN.{length}
+use borrow.Author.Tests.{ltb-true, ltb-false, leb-true, leb-false, le-ltb}
+use Rattle.rules.specs.Base.{every, nonEmpty}
+use Rattle.rules.specs.State.{Message, Stored, unset, stored, State, Counters, withRun}
+use Rattle.rules.specs.Answers
+use Rattle.rules.specs.Answers.{Refusal, refusalNumber, Answer, Accepted, Advanced, Committed, Refused, number}
+use Rattle.rules.specs.Rows.{Out, out}
+use Rattle.rules.specs.Begin.{previous}
+use Rattle.rules.specs.Refresh.{raised, refreshTo, refreshed}
+use Rattle.rules.specs.Step.{aim, countRaised, anyRaised, newEdges, newHorizons, nullsOf, rose, advanced}
+use Rattle.rules.specs.HandBack.{Emission, handled}
+use Rattle.rules.specs.Calls.{Call, AddInitial, Begin, Step, HandBack, rule}
+use Rattle.rules.specs.History.{Entry, History, entry, onward, isBegin, isHandBack, horizon, refused, isCommitted, isAdvanced, inHand}
+use Rattle.rules.proofs.Tests.{by-bool, not-both, or-else}
+use Rattle.rules.proofs.Lists.{some-long}
+use Rattle.rules.proofs.Cases.{by-initial, BeginPassed, by-begin, Advances, by-step, by-back}
+use Rattle.rules.proofs.Shape.{Shaped, passes-11}
+use Rattle.rules.proofs.Fronts.{aim-low, aim-le, low-raised, low-grows, count-le, count-none, length-edges, all-stay, none-raised}
+use Rattle.rules.proofs.Unstuck.{horizons-high}
+use Rattle.rules.proofs.Pace.{Counts, countsOf, endOf, front, Pace, Paced}
+use Rattle.rules.proofs.PaceMoves.{begun, moved, Kind, counts-quiet, counts-begun, counts-moved, counts-returned, pace-stay, pace-begun, pace-sent, pace-lift, pace-returned}
+
+-- An advance
+module _ (s : State) (h b : ℕ) (w : Shaped s) (a : Advances s h b) (k : Counts) (i : Pace k (s .lookahead) (s .edges) (s .horizons) (s .limits)) where
+  end-is : k .end ≡ suc h
+  unfolding endOf
+  end-is = i .end ∙ ap endOf (a .steps .limits)
+
+  -- The fronts after it, whatever rose.
+  shifted : (to : ℕ → ℕ) → Pace k (s .lookahead) (newEdges s (suc h)) (raised to 0 (newHorizons s (suc h))) (s .limits)
+  shifted to =
+      pace-stay k (s .lookahead) (s .edges) (newEdges s (suc h)) (s .horizons) (raised to 0 (newHorizons s (suc h))) (s .limits) i (length-edges s (suc h) (s .edges)) (low-grows s (suc h) (s .edges) (max (k .end) (s .lookahead)))
+      (λ u. all-stay to (k .end) 0 (newHorizons s (suc h)) (all-stay (aim s (suc h)) (k .end) 0 (s .horizons) u))
+
+  -- Everybody aims at the front or beyond.
+  low : (p : ℕ) → p < s .n → min (suc h) (front (k .end) (s .lookahead) (s .edges)) ≤ aim s (suc h) p
+  low = aim-low s h b (max (k .end) (s .lookahead)) a (omega (arith, end-is))
+
+  -- A bound rose: the front was below the end, and rose.
+  front-low : 0 < nullsOf s (suc h) → front (k .end) (s .lookahead) (s .edges) < k .end
+  front-low r =
+      by-bool (leb (k .end) (front (k .end) (s .lookahead) (s .edges)))
+      (λ d. let l : k .end ≤ front (k .end) (s .lookahead) (s .edges) = leb-true _ _ d in absurd (omega (arith, count-none s (suc h) (max (k .end) (s .lookahead)) (s .edges) (omega (arith, end-is)))))
+      (λ d. leb-false _ _ d)
+
+  front-far : min (k .end) (front (k .end) (s .lookahead) (s .edges) + s .lookahead) ≤ front (k .end) (s .lookahead) (newEdges s (suc h))
+  front-far = omega (arith, end-is, low-raised s (suc h) (min (suc h) (front (k .end) (s .lookahead) (s .edges))) low (s .edges) (max (k .end) (s .lookahead)) (w .wired .joined))
+
+  -- No bound rose but something did: not every local horizon was at the end, and now each is.
+  horizons-low : nullsOf s (suc h) ≡ 0 → rose s (suc h) ≡ true → every (leb (k .end)) (s .horizons) ≡ false
+  unfolding rose
+  horizons-low z t =
+      by-bool (every (leb (k .end)) (s .horizons))
+      (λ d. not-both (or-else (ltb 0 (nullsOf s (suc h))) (anyRaised (s .horizons) (newHorizons s (suc h))) (le-ltb 0 (nullsOf s (suc h)) (omega arith)) t) (none-raised (aim s (suc h)) (k .end) 0 (s .horizons) (λ p. omega (arith, aim-le s (suc h) p, end-is)) d))
+      (λ d. d)
+
+  pub pace-rose : (to : ℕ → ℕ) → rose s (suc h) ≡ true → Pace (moved k (nullsOf s (suc h))) (s .lookahead) (newEdges s (suc h)) (raised to 0 (newHorizons s (suc h))) (s .limits)
+  pace-rose to t =
+      by-bool (ltb 0 (nullsOf s (suc h)))
+      (λ e. let r : 0 < nullsOf s (suc h) = ltb-true _ _ e in
+      pace-sent k (s .lookahead) (nullsOf s (suc h)) (s .edges) (newEdges s (suc h)) (raised to 0 (newHorizons s (suc h))) (s .limits)
+      (i .sending (front-low r)) r (count-le s (suc h) (s .edges)) (length-edges s (suc h) (s .edges)) (low-grows s (suc h) (s .edges) (max (k .end) (s .lookahead))) front-far (shifted to))
+      (λ e. let z : nullsOf s (suc h) ≡ 0 = omega (arith, ltb-false 0 (nullsOf s (suc h)) e) in
+      rw z (pace-lift k (s .lookahead) (newEdges s (suc h)) (raised to 0 (newHorizons s (suc h))) (s .limits) (i .lifting (horizons-low z t)) (rw end-is (horizons-high s h b w a to z)) (shifted to)))
+
+-- What a call that came out as o is to show.
+unfoldable pub Going : History → Call → Out → Type 0
+Going y k o = Paced (onward y k o)
+
+-- The pace of a state with the counts of a list of calls.
+unfoldable At : List Entry → State → Type 0
+At es s = Pace (countsOf es) (s .lookahead) (s .edges) (s .horizons) (s .limits)
+
+-- By the kind of the call: the pace that is left to show.
+module _ (y : History) (k : Call) (r : Answer) (s : State) (c : Counters) where
+  going-quiet : Kind (entry (y .now) k (out r s c)) false false false → At (y .entries) s → Going y k (out r s c)
+  unfolding Going Paced At
+  going-quiet x i = subst (λ (n : Counts). Pace n (s .lookahead) (s .edges) (s .horizons) (s .limits)) (sym (counts-quiet (entry (y .now) k (out r s c)) (y .entries) x)) i
+
+  going-begun : Kind (entry (y .now) k (out r s c)) true false false → Pace (begun (countsOf (y .entries)) (horizon k)) (s .lookahead) (s .edges) (s .horizons) (s .limits) → Going y k (out r s c)
+  unfolding Going Paced
+  going-begun x i = subst (λ (n : Counts). Pace n (s .lookahead) (s .edges) (s .horizons) (s .limits)) (sym (counts-begun (entry (y .now) k (out r s c)) (y .entries) x)) i
+
+  going-moved : Kind (entry (y .now) k (out r s c)) false true false → Pace (moved (countsOf (y .entries)) (countRaised (y .now .edges) (s .edges))) (s .lookahead) (s .edges) (s .horizons) (s .limits) → Going y k (out r s c)
+  unfolding Going Paced
+  going-moved x i = subst (λ (n : Counts). Pace n (s .lookahead) (s .edges) (s .horizons) (s .limits)) (sym (counts-moved (entry (y .now) k (out r s c)) (y .entries) x)) i
+
+  going-returned : Kind (entry (y .now) k (out r s c)) false false true → 0 < length (inHand (y .entries)) → At (y .entries) s → Going y k (out r s c)
+  unfolding Going Paced At
+  going-returned x p i =
+      subst (λ (n : Counts). Pace n (s .lookahead) (s .edges) (s .horizons) (s .limits)) (sym (counts-returned (entry (y .now) k (out r s c)) (y .entries) x))
+      (pace-returned (countsOf (y .entries)) (s .lookahead) (length (inHand (y .entries))) (s .edges) (s .horizons) (s .limits) p i)
+
+-- Add initial
+module _ (y : History) (m : Message) (w : Shaped (y .now)) (i : Paced y) where
+  initial-quiet : (r : Answer) (s : State) → isAdvanced r ≡ false → At (y .entries) s → Going y (AddInitial m) (out r s (y .counters))
+  unfolding isBegin isHandBack
+  initial-quiet r s e j = going-quiet y (AddInitial m) r s (y .counters) (record { begins = refl; advanced = e; commits = refl }) j
+
+  going-initial : Going y (AddInitial m) (rule (y .now) (y .counters) (AddInitial m))
+  unfolding rule Paced At isAdvanced
+  going-initial = by-initial (y .now) (y .counters) m (Going y (AddInitial m)) (record {
+    alien = λ e. not-both e (passes-11 (y .now) w);
+    away = λ r _. initial-quiet (Refused r) (y .now) refl i;
+    accept = λ _. initial-quiet Accepted _ refl i;
+  })
+
+-- Begin
+end-previous : (l : Stored) → endOf l ≤ suc (previous l)
+unfolding endOf previous
+end-previous unset = omega arith
+end-previous (stored h b) = omega arith
+
+module _ (y : History) (h b : ℕ) (w : Shaped (y .now)) (i : Paced y) where
+  begin-refused : (r : Refusal) → Going y (Begin h b) (out (Refused r) (y .now) (y .counters))
+  unfolding Paced At isBegin isHandBack refused isCommitted isAdvanced
+  begin-refused r = going-quiet y (Begin h b) (Refused r) (y .now) (y .counters) (record { begins = refl; advanced = refl; commits = refl }) i
+
+  begin-accepted : BeginPassed (y .now) h → Going y (Begin h b) (out Accepted (withRun (y .now) h b) (y .counters))
+  unfolding Paced isBegin isHandBack refused isCommitted isAdvanced horizon
+  begin-accepted p =
+      going-begun y (Begin h b) Accepted (withRun (y .now) h b) (y .counters) (record { begins = refl; advanced = refl; commits = refl })
+      (pace-begun (countsOf (y .entries)) (y .now .lookahead) h b (y .now .edges) (y .now .horizons) (y .now .limits) i (omega (arith, i .end, end-previous (y .now .limits), p .later)))
+
+  going-begin : Going y (Begin h b) (rule (y .now) (y .counters) (Begin h b))
+  unfolding rule
+  going-begin = by-begin (y .now) (y .counters) h b (Going y (Begin h b)) (record {
+    alien = λ e. not-both e (passes-11 (y .now) w);
+    away = λ r _. begin-refused r;
+    accept = begin-accepted;
+  })
+
+-- Step
+module _ (y : History) (w : Shaped (y .now)) (i : Paced y) where
+  step-quiet : (r : Answer) (s : State) → isAdvanced r ≡ false → At (y .entries) s → Going y Step (out r s (y .counters))
+  unfolding isBegin isHandBack
+  step-quiet r s e j = going-quiet y Step r s (y .counters) (record { begins = refl; advanced = e; commits = refl }) j
+
+  step-rise : (h b : ℕ) → Advances (y .now) h b → rose (y .now) (suc h) ≡ true → (c : Counters) → Going y Step (out (Advanced (advanced (y .now) h .gvt)) (advanced (y .now) h) c)
+  unfolding Paced isBegin isHandBack isAdvanced refreshed
+  step-rise h b a t c =
+      going-moved y Step (Advanced (advanced (y .now) h .gvt)) (advanced (y .now) h) c (record { begins = refl; advanced = refl; commits = refl })
+      (pace-rose (y .now) h b w a (countsOf (y .entries)) i (refreshTo (y .now .edges) (suc h) (y .now .pending)) t)
+
+  step-still : (h b : ℕ) → Advances (y .now) h b → At (y .entries) (advanced (y .now) h)
+  unfolding Paced At refreshed
+  step-still h b a = shifted (y .now) h b w a (countsOf (y .entries)) i (refreshTo (y .now .edges) (suc h) (y .now .pending))
+
+  going-step : Going y Step (rule (y .now) (y .counters) Step)
+  unfolding rule Paced At isAdvanced
+  going-step = by-step (y .now) (y .counters) (Going y Step) (record {
+    alien = λ e. not-both e (passes-11 (y .now) w);
+    away = λ r _. step-quiet (Refused r) (y .now) refl i;
+    batch = λ h b _ _. step-quiet _ _ refl i;
+    spends = λ h b _. step-quiet _ _ refl i;
+    rise = λ h b a t. step-rise h b a t _;
+    finish = λ h b a _ _. step-quiet _ _ refl (step-still h b a);
+    stuck = λ h b a _ _. step-quiet _ _ refl (step-still h b a);
+  })
+
+-- Hand back
+module _ (y : History) (mask : ℕ) (xs : List Emission) (w : Shaped (y .now)) (q : inHand (y .entries) ≡ y .now .batch) (i : Paced y) where
+  back-quiet : (r : Refusal) (s : State) → eqb (refusalNumber r) 24 ≡ false → At (y .entries) s → Going y (HandBack mask xs) (out (Refused r) s (y .counters))
+  unfolding isBegin isHandBack refused isCommitted isAdvanced number
+  back-quiet r s e j = going-quiet y (HandBack mask xs) (Refused r) s (y .counters) (record { begins = refl; advanced = refl; commits = e }) j
+
+  some-in-hand : nonEmpty (y .now .batch) ≡ true → 0 < length (inHand (y .entries))
+  some-in-hand e = rw q (some-long (y .now .batch) e)
+
+  back-spends : (b : ℕ) (s : State) (c : Counters) → nonEmpty (y .now .batch) ≡ true → At (y .entries) s → Going y (HandBack mask xs) (out (Refused (Answers.EventBudgetExceeded b)) s c)
+  unfolding isBegin isHandBack refused isCommitted isAdvanced number refusalNumber
+  back-spends b s c e j = going-returned y (HandBack mask xs) (Refused (Answers.EventBudgetExceeded b)) s c (record { begins = refl; advanced = refl; commits = refl }) (some-in-hand e) j
+
+  back-commits : (g : ℕ) (s : State) (c : Counters) → nonEmpty (y .now .batch) ≡ true → At (y .entries) s → Going y (HandBack mask xs) (out (Committed g) s c)
+  unfolding isBegin isHandBack refused isCommitted isAdvanced number
+  back-commits g s c e j = going-returned y (HandBack mask xs) (Committed g) s c (record { begins = refl; advanced = refl; commits = refl }) (some-in-hand e) j
+
+  back-refreshed : (h : ℕ) → At (y .entries) (refreshed (handled (y .now) xs) h (y .now .edges) (y .now .edges) (y .now .horizons))
+  unfolding Paced At refreshed
+  back-refreshed h = pace-stay (countsOf (y .entries)) (y .now .lookahead) (y .now .edges) (y .now .edges) (y .now .horizons) _ (y .now .limits) i refl (omega arith) (all-stay _ (countsOf (y .entries) .end) 0 (y .now .horizons))
+
+  going-back : Going y (HandBack mask xs) (rule (y .now) (y .counters) (HandBack mask xs))
+  unfolding rule Paced At refusalNumber
+  going-back = by-back (y .now) (y .counters) mask xs (Going y (HandBack mask xs)) (record {
+    alien = λ e. not-both e (passes-11 (y .now) w);
+    dead = λ _. back-quiet _ _ refl i;
+    empty = λ _. back-quiet _ _ refl i;
+    malformed = back-quiet _ _ refl i;
+    lost = λ _ r l. back-quiet r _ (l .not-24) i;
+    homeless = λ _ _. back-quiet _ _ refl i;
+    spends = λ h b m. back-spends b _ _ (m .reply .some-batch) i;
+    commits = λ h b m. back-commits _ _ _ (m .reply .some-batch) (back-refreshed h);
+  })
+
+going : (y : History) (k : Call) → Shaped (y .now) → inHand (y .entries) ≡ y .now .batch → Paced y → Going y k (rule (y .now) (y .counters) k)
+going y (AddInitial m) w q i = going-initial y m w i
+going y (Begin h b) w q i = going-begin y h b w i
+going y Step w q i = going-step y w i
+going y (HandBack mask xs) w q i = going-back y mask xs w q i
+
+pub pace-kept : (y : History) (k : Call) → Shaped (y .now) → inHand (y .entries) ≡ y .now .batch → Paced y → Paced (onward y k (rule (y .now) (y .counters) k))
+unfolding Going
+pace-kept y k w q i = going y k w q i
