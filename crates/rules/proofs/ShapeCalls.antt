@@ -1,6 +1,6 @@
 -- Every call leaves a state that 11 lets pass, if it was given one.
 use mathlib.Core.Path.{_≡_, refl, sym, ap, subst, _∙_}
-use mathlib.Core.Bool.{Bool, true, false, not, _&&_, _||_, true≢false}
+use mathlib.Core.Bool.{Bool, true, false, not, _&&_, _||_, and-false}
 use mathlib.Core.List.{List, [], _∷_, _++_, map}
 use Prim.Native.Nat.{ℕ, zero, suc, _+_, _-_, _≤_, _<_}
 use native.Mathlib.Omega.{arith}
@@ -14,14 +14,15 @@ use Rattle.rules.specs.Pending.{joins, before, insert, queue}
 use Rattle.rules.specs.Foreign.{badEdges, atTop, isUnset, byProcess}
 use Rattle.rules.specs.Refresh.{raised, refreshed}
 use Rattle.rules.specs.Step.{take, takenAt, raisedEdges, newEdges, newHorizons, advanced, step}
-use Rattle.rules.specs.HandBack.{Emission, messages, handled, handBack}
+use Rattle.rules.specs.HandBack.{Emission, processRows, messages, handled, handBack}
 use Rattle.rules.specs.Calls.{Call, AddInitial, Begin, Step, HandBack, rule}
-use Rattle.rules.proofs.Tests.{and-off, and-other, not-true, not-both, or-left}
-use Rattle.rules.proofs.Lists.{All, all-map, empty-nil}
+use Rattle.rules.proofs.Tests.{by-bool, and-off, and-other, not-both}
+use Rattle.rules.proofs.Lists.{All, all-map, all-mapped, all-front, all-rest, empty-nil}
 use Rattle.rules.proofs.Cases.{InitialPassed, InitialCases, by-initial, BeginPassed, BeginCases, by-begin, Steps, StepCases, by-step, Commits, BackCases, by-back}
 use Rattle.rules.proofs.Shape.{Short, Known, Joined, Sized, Wired, Queued, Held, Runs, Shaped, homeless-never}
-use Rattle.rules.proofs.Tally.{length-insert, take-shorter}
+use Rattle.rules.proofs.Tally.{length-insert, length-messages, take-shorter}
 use Rattle.rules.proofs.Order.{Pairs, pairs-rising, Sorted, sorted, sorted-rises, all-insert, Apart, sorted-insert}
+use Rattle.rules.proofs.Checks.{each-emission}
 use Rattle.rules.proofs.Fronts.{length-edges}
 use Rattle.rules.proofs.Take.{Both, take-all, take-sorted, take-few, Ascend, take-rises, upFrom-length}
 
@@ -102,3 +103,113 @@ queued-taken es H n next k ps q i = record {
   order = sorted-rises _ (take-sorted es H ps k q (sorted q (i .order)));
   numbers = take-all (λ (e : Event). e .sequence < next) es H ps k q (i .numbers) .left;
 }
+
+-- Runs
+
+runs-empty : (l : Stored) (running : Bool) → atTop l ≡ false → running && isUnset l ≡ false → Runs l [] running
+unfolding nonEmpty
+runs-empty l running a b = record { below = a; stored = b; opened = refl }
+
+runs-closed : (l : Stored) (bs : List Event) (running : Bool) → bs ≡ [] → Runs l bs running → Runs l bs false
+unfolding nonEmpty
+runs-closed l bs running z i = record { below = i .below; stored = refl; opened = and-off (nonEmpty bs) true (ap nonEmpty z) }
+
+runs-begun : (h b : ℕ) (bs : List Event) → bs ≡ [] → h < top → Runs (stored h b) bs true
+unfolding atTop isUnset nonEmpty
+runs-begun h b bs z l = record { below = lt-leb top h l; stored = refl; opened = and-off (nonEmpty bs) false (ap nonEmpty z) }
+
+runs-batch : (l : Stored) (bs cs : List Event) (running : Bool) → running ≡ true → Runs l bs running → Runs l cs running
+runs-batch l bs cs running r i = record { below = i .below; stored = i .stored; opened = rw r (and-false (nonEmpty cs)) }
+
+-- The calls
+
+unfoldable pub Shapes : Out → Type 0
+Shapes o = Shaped (o .after)
+
+idle-empty : (s : State) → Shaped s → s .running ≡ false → s .batch ≡ []
+idle-empty s w r = empty-nil (s .batch) (by-bool (nonEmpty (s .batch)) (λ t. not-both (ap not r) (and-other (nonEmpty (s .batch)) (not (s .running)) t (w .runs .opened))) (λ t. t))
+
+module _ (s : State) (c : Counters) (w : Shaped s) where
+  shape-initial : (m : Message) → InitialPassed s m → Shaped (withPending s (insert (numbered m (s .next)) (s .pending)) (suc (s .next)))
+  shape-initial m i = record {
+    sized = w .sized;
+    wired = w .wired;
+    queued = queued-insert (s .n) (s .next) (s .pending) m (record { source = i .source; destination = i .destination; payload = i .payload }) (i .room) (w .queued);
+    held = w .held;
+    runs = w .runs;
+  }
+
+  shape-begin : (h b : ℕ) → BeginPassed s h → Shaped (withRun s h b)
+  shape-begin h b i = record { sized = w .sized; wired = w .wired; queued = w .queued; held = w .held; runs = runs-begun h b (s .batch) (idle-empty s w (i .idle)) (i .below) }
+
+  shape-batch : (h b : ℕ) → Steps s h b → Shaped (withBatch s (takenAt s h b .events) (takenAt s h b .left))
+  unfolding upTo
+  shape-batch h b i = record {
+    sized = w .sized;
+    wired = w .wired;
+    queued = queued-taken (s .edges) (suc h) (s .n) (s .next) (b - s .used) (upTo (s .n)) (s .pending) (w .queued);
+    held = held-taken (s .edges) (suc h) (s .n) (b - s .used) (s .pending) (w .sized .few) (w .queued .short) (w .queued .known);
+    runs = runs-batch (s .limits) (s .batch) (takenAt s h b .events) (s .running) (i .open-run) (w .runs);
+  }
+
+  shape-closed : s .batch ≡ [] → Shaped (closed s)
+  shape-closed z = record { sized = w .sized; wired = w .wired; queued = w .queued; held = w .held; runs = runs-closed (s .limits) (s .batch) (s .running) z (w .runs) }
+
+  shape-poison : Shaped (poison s)
+  shape-poison = record { sized = w .sized; wired = w .wired; queued = w .queued; held = held-none (s .n); runs = runs-empty (s .limits) (s .running) (w .runs .below) (w .runs .stored) }
+
+  shape-advanced : (h : ℕ) → Shaped (advanced s h)
+  unfolding refreshed
+  shape-advanced h = record {
+    sized = sized-raised (s .n) (s .lookahead) (newHorizons s (suc h)) _ (sized-raised (s .n) (s .lookahead) (s .horizons) _ (w .sized));
+    wired = wired-raised s (suc h) (s .n) (s .edges) (w .wired);
+    queued = w .queued;
+    held = w .held;
+    runs = w .runs;
+  }
+
+  fits : (mask : ℕ) (xs : List Emission) (h b : ℕ) → Commits s mask xs h b → All (Fit (s .n)) (messages xs)
+  fits mask xs h b i =
+      all-mapped (Fit (s .n)) (λ (x : Emission). x .message) xs
+      (each-emission (λ x. Fit (s .n) (x .message)) (Known (s .n)) s mask xs (i .reply .formed) (all-front (λ (r : Row). r .test ≡ false) (processRows s mask xs (s .batch)) _ (i .passed)) (w .held .known)
+      (λ b x k e r t l. record { source = let z : x .message .source ≡ b .destination = r .own ∙ e in omega (arith, k .destination); destination = r .known; payload = l }))
+
+  few-enough : (mask : ℕ) (xs : List Emission) (h b : ℕ) → Commits s mask xs h b → length (s .pending) + length xs ≤ 512
+  few-enough mask xs h b i = let z = all-rest (λ (r : Row). r .test ≡ false) (processRows s mask xs (s .batch)) _ (i .passed) in ltb-false 512 (length (s .pending) + length xs) (z .1 .0)
+
+  shape-handled : (mask : ℕ) (xs : List Emission) (h b : ℕ) → Commits s mask xs h b → Shaped (handled s xs)
+  shape-handled mask xs h b i = record {
+    sized = w .sized;
+    wired = w .wired;
+    queued = rw (length-messages xs) at (queued-all (s .n) (s .next) (s .pending) (messages xs) (fits mask xs h b i) (omega (arith, few-enough mask xs h b i, length-messages xs)) (w .queued));
+    held = held-none (s .n);
+    runs = runs-empty (s .limits) (s .running) (w .runs .below) (w .runs .stored);
+  }
+
+shape-refreshed : (s : State) (h : ℕ) → Shaped s → Shaped (refreshed s h (s .edges) (s .edges) (s .horizons))
+unfolding refreshed
+shape-refreshed s h w = record { sized = sized-raised (s .n) (s .lookahead) (s .horizons) _ (w .sized); wired = w .wired; queued = w .queued; held = w .held; runs = w .runs }
+
+pub shape-kept : (s : State) (c : Counters) (k : Call) → Shaped s → Shapes (rule s c k)
+unfolding rule Shapes
+shape-kept s c (AddInitial m) w = by-initial s c m (λ o. Shapes o) (record { alien = λ _. w; away = λ _ _. w; accept = λ i. shape-initial s c w m i })
+shape-kept s c (Begin h b) w = by-begin s c h b (λ o. Shapes o) (record { alien = λ _. w; away = λ _ _. w; accept = λ i. shape-begin s c w h b i })
+shape-kept s c Step w = by-step s c (λ o. Shapes o) (record {
+  alien = λ _. w;
+  away = λ _ _. w;
+  batch = λ h b i _. shape-batch s c w h b i;
+  spends = λ h b i. shape-closed s c w (i .empty);
+  rise = λ h b i _. shape-advanced s c w h;
+  finish = λ h b i _ _. shape-closed (advanced s h) c (shape-advanced s c w h) (unfold refreshed in i .steps .empty);
+  stuck = λ h b i _ _. shape-poison (advanced s h) c (shape-advanced s c w h);
+})
+shape-kept s c (HandBack mask xs) w = by-back s c mask xs (λ o. Shapes o) (record {
+  alien = λ _. w;
+  dead = λ _. w;
+  empty = λ _. w;
+  malformed = w;
+  lost = λ _ _ _. shape-poison s c w;
+  homeless = λ _ _. w;
+  spends = λ h b i. shape-closed (handled s xs) c (shape-handled s c w mask xs h b i) refl;
+  commits = λ h b i. shape-refreshed (handled s xs) h (shape-handled s c w mask xs h b i);
+})
