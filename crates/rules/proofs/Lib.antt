@@ -16,3 +16,8 @@ pub mod Pace
 pub mod PaceMoves
 pub mod PaceCalls
 pub mod ShapeCalls
+pub mod Fair
+pub mod Emit
+pub mod Handed
+pub mod FairMoves
+pub mod FairCalls

@@ -16,7 +16,7 @@ use Rattle.rules.specs.Refresh.{raised, refreshed}
 use Rattle.rules.specs.Step.{take, takenAt, raisedEdges, newEdges, newHorizons, advanced, step}
 use Rattle.rules.specs.HandBack.{Emission, processRows, messages, handled, handBack}
 use Rattle.rules.specs.Calls.{Call, AddInitial, Begin, Step, HandBack, rule}
-use Rattle.rules.proofs.Tests.{by-bool, and-off, and-other, not-both}
+use Rattle.rules.proofs.Tests.{by-bool, and-off, and-other, not-false, not-both}
 use Rattle.rules.proofs.Lists.{All, all-map, all-mapped, all-front, all-rest, empty-nil}
 use Rattle.rules.proofs.Cases.{InitialPassed, InitialCases, by-initial, BeginPassed, BeginCases, by-begin, Steps, StepCases, by-step, Commits, BackCases, by-back}
 use Rattle.rules.proofs.Shape.{Short, Known, Joined, Sized, Wired, Queued, Held, Runs, Shaped, homeless-never}
@@ -129,6 +129,9 @@ Shapes o = Shaped (o .after)
 idle-empty : (s : State) → Shaped s → s .running ≡ false → s .batch ≡ []
 idle-empty s w r = empty-nil (s .batch) (by-bool (nonEmpty (s .batch)) (λ t. not-both (ap not r) (and-other (nonEmpty (s .batch)) (not (s .running)) t (w .runs .opened))) (λ t. t))
 
+pub batch-runs : (s : State) → Shaped s → nonEmpty (s .batch) ≡ true → s .running ≡ true
+batch-runs s w b = not-false (s .running) (and-other (nonEmpty (s .batch)) (not (s .running)) b (w .runs .opened))
+
 module _ (s : State) (c : Counters) (w : Shaped s) where
   shape-initial : (m : Message) → InitialPassed s m → Shaped (withPending s (insert (numbered m (s .next)) (s .pending)) (suc (s .next)))
   shape-initial m i = record {
@@ -177,7 +180,7 @@ module _ (s : State) (c : Counters) (w : Shaped s) where
   few-enough : (mask : ℕ) (xs : List Emission) (h b : ℕ) → Commits s mask xs h b → length (s .pending) + length xs ≤ 512
   few-enough mask xs h b i = let z = all-rest (λ (r : Row). r .test ≡ false) (processRows s mask xs (s .batch)) _ (i .passed) in ltb-false 512 (length (s .pending) + length xs) (z .1 .0)
 
-  shape-handled : (mask : ℕ) (xs : List Emission) (h b : ℕ) → Commits s mask xs h b → Shaped (handled s xs)
+  pub shape-handled : (mask : ℕ) (xs : List Emission) (h b : ℕ) → Commits s mask xs h b → Shaped (handled s xs)
   shape-handled mask xs h b i = record {
     sized = w .sized;
     wired = w .wired;

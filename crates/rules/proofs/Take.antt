@@ -28,7 +28,7 @@ below-safe k (some f) e h = go (ltb (f .tick) k) refl h
 
 -- What taking does at one process, for a statement about what is taken and left: nobody, no room, or its first event.
 module _ (es : List Edge) (H : ℕ) (Q : List Event → Taken → Type 0) where
-  take-cases : (p : ℕ) (ps : List ℕ) (k : ℕ) (q : List Event)
+  pub take-cases : (p : ℕ) (ps : List ℕ) (k : ℕ) (q : List Event)
       → (Q q (take es H ps k q))
       → (Q q (record { events = []; left = q }))
       → ((j : ℕ) (e : Event) → k ≡ suc j → firstOf q p ≡ some e → e .tick < safe es H p → Q q (record { events = e ∷ take es H ps j (withoutFirst q p) .events; left = take es H ps j (withoutFirst q p) .left }))
