@@ -23,9 +23,10 @@ use Rattle.rules.proofs.Tests.{by-test, or-left, or-right, not-true, no
 use Rattle.rules.proofs.Lists.{All, all-append, empty-nil}
 use Rattle.rules.proofs.Table.{Passed, Firsts, by-firsts, firsts-all}
 
--- A refusal that is not 11, and one that is none of 11, 24 and 26 (how hand back's are told apart).
+-- A refusal that is neither 11 nor 33, and one that is none of 11, 24 and 26 (how hand back's are told apart).
 pub record Plain (r : Refusal) : Type 0 where
   pub not-11 : eqb (refusalNumber r) 11 ≡ false
+  pub not-33 : eqb (refusalNumber r) 33 ≡ false
 
 pub record Losing (r : Refusal) : Type 0 where
   pub not-11 : eqb (refusalNumber r) 11 ≡ false
@@ -54,15 +55,15 @@ by-initial s c m P k =
     by-firsts P (initialRows s m) _ _ (
       k .alien,
       λ a. (
-        (λ _. k .away _ (record { not-11 = refl })),
+        (λ _. k .away _ (record { not-11 = refl; not-33 = refl })),
         λ b. (
-          (λ _. k .away _ (record { not-11 = refl })),
+          (λ _. k .away _ (record { not-11 = refl; not-33 = refl })),
           λ d. (
-            (λ _. k .away _ (record { not-11 = refl })),
+            (λ _. k .away _ (record { not-11 = refl; not-33 = refl })),
             λ e. (
-              (λ _. k .away _ (record { not-11 = refl })),
+              (λ _. k .away _ (record { not-11 = refl; not-33 = refl })),
               λ f.
-                  ((λ _. k .away _ (record { not-11 = refl })), λ g. ((λ _. k .away _ (record { not-11 = refl })), λ h. ((λ _. k .away _ (record { not-11 = refl })), λ i. ((λ _. k .away _ (record { not-11 = refl })), λ j. tt)))),
+                  ((λ _. k .away _ (record { not-11 = refl; not-33 = refl })), λ g. ((λ _. k .away _ (record { not-11 = refl; not-33 = refl })), λ h. ((λ _. k .away _ (record { not-11 = refl; not-33 = refl })), λ i. ((λ _. k .away _ (record { not-11 = refl; not-33 = refl })), λ j. tt)))),
             ),
           ),
         ),
@@ -96,7 +97,7 @@ pub by-begin : (s : State) (c : Counters) (h b : ℕ) (P : Out → Type 0) → B
 unfolding begin refusalNumber
 by-begin s c h b P k =
     by-firsts P (beginRows s h) _ _
-    (k .alien, λ x. ((λ _. k .away _ (record { not-11 = refl })), λ y. ((λ _. k .away _ (record { not-11 = refl })), λ z. ((λ _. k .away _ (record { not-11 = refl })), λ u. ((λ _. k .away _ (record { not-11 = refl })), λ v. tt)))))
+    (k .alien, λ x. ((λ _. k .away _ (record { not-11 = refl; not-33 = refl })), λ y. ((λ _. k .away _ (record { not-11 = refl; not-33 = refl })), λ z. ((λ _. k .away _ (record { not-11 = refl; not-33 = refl })), λ u. ((λ _. k .away _ (record { not-11 = refl; not-33 = refl })), λ v. tt)))))
     (λ p. k .accept (record {
       passes = p .0;
       healthy = p .1 .0;
@@ -138,14 +139,14 @@ module _ (s : State) (c : Counters) (P : Out → Type 0) (k : StepCases s c P) w
 
   step-at : (l : Stored) → s .limits ≡ l → foreign s ≡ false → s .poisoned ≡ false → s .running ≡ true → s .batch ≡ [] → P (stepAt s c l)
   unfolding stepAt refusalNumber
-  step-at unset e a u r z = k .away _ (record { not-11 = refl })
+  step-at unset e a u r z = k .away _ (record { not-11 = refl; not-33 = refl })
   step-at (stored h b) e a u r z = step-run h b (record { passes = a; healthy = u; open-run = r; empty = z; limits = e })
 
   pub by-step : P (step s c)
   unfolding step refusalNumber
   by-step =
       by-firsts P (stepRows s) _ _
-      (k .alien, λ a. ((λ _. k .away _ (record { not-11 = refl })), λ u. ((λ _. k .away _ (record { not-11 = refl })), λ t. tt)))
+      (k .alien, λ a. ((λ _. k .away _ (record { not-11 = refl; not-33 = refl })), λ u. ((λ _. k .away _ (record { not-11 = refl; not-33 = refl })), λ t. tt)))
       (λ p. step-at (s .limits) refl (p .0) (p .1 .0) (not-false (s .running) (or-left (not (s .running)) (nonEmpty (s .batch)) (p .1 .1 .0))) (empty-nil (s .batch) (or-right (not (s .running)) (nonEmpty (s .batch)) (p .1 .1 .0))))
 
 -- A hand back that is not malformed.

@@ -21,3 +21,6 @@ pub mod Emit
 pub mod Handed
 pub mod FairMoves
 pub mod FairCalls
+pub mod Numbers
+pub mod Built
+pub mod Sequence

@@ -16,4 +16,5 @@ pub mod Reads
 pub mod Plan
 pub mod Calls
 pub mod History
+pub mod Demand
 pub mod Opened
