@@ -24,3 +24,4 @@ pub mod FairCalls
 pub mod Numbers
 pub mod Built
 pub mod Sequence
+pub mod Demand

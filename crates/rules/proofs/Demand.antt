@@ -1,0 +1,168 @@
+-- Demand 3 of the rules: for every list of calls, from every build that is not refused.
+use mathlib.Core.Path.{_≡_, refl, sym, ap, _∙_}
+use mathlib.Core.Bool.{Bool, true, false, true≢false}
+use mathlib.Core.List.{List, [], _∷_, map}
+use Prim.Native.Nat.{ℕ, zero, suc, _+_, _*_, _/_, _≤_, min}
+use native.Mathlib.Omega.{arith}
+use lib.ListN.{length, getD}
+use Rattle.rules.specs.Base.{if_then_else_, upTo, count}
+use Rattle.rules.specs.State.{Edge, State, Counters, most, withPending, withRun, withBatch, closed, poison}
+use Rattle.rules.specs.Answers.{Reading, Pending, Counted, Read, Accepted}
+use Rattle.rules.specs.Rows.{unless, Out}
+use Rattle.rules.specs.Build.{Setup, built, build}
+use Rattle.rules.specs.Foreign.{foreign}
+use Rattle.rules.specs.Refresh.{refreshed}
+use Rattle.rules.specs.Step.{advanced}
+use Rattle.rules.specs.HandBack.{handled}
+use Rattle.rules.specs.Reads.{read, readCounters, readPending}
+use Rattle.rules.specs.Calls.{Call, AddInitial, Begin, Step, HandBack, rule}
+use Rattle.rules.specs.History
+use Rattle.rules.specs.History.{History, fresh, onward, tell, L, E, R, H, initials, inHand, emitted, remote, rounds, nulls, workers, used}
+use Rattle.rules.specs.Demand.{Never, Demanded}
+use Rattle.rules.proofs.Lists.{All, all-map}
+use Rattle.rules.proofs.Cases.{InitialCases, by-initial, BeginCases, by-begin, StepCases, by-step, BackCases, by-back}
+use Rattle.rules.proofs.Shape.{Shaped, passes-11}
+use Rattle.rules.proofs.ShapeCalls.{Shapes, shape-kept}
+use Rattle.rules.proofs.Tally.{Kept, Tallied, Tells}
+use Rattle.rules.proofs.TallyCalls.{tells}
+use Rattle.rules.proofs.Fronts.{length-edges}
+use Rattle.rules.proofs.Pace.{Paced, paced-built, few-nulls, few-rounds}
+use Rattle.rules.proofs.PaceCalls.{pace-kept}
+use Rattle.rules.proofs.Fair.{Reach, Capped}
+use Rattle.rules.proofs.FairMoves.{Fair}
+use Rattle.rules.proofs.FairCalls.{FairIn, fair-kept}
+use Rattle.rules.proofs.Handed.{given}
+use Rattle.rules.proofs.Numbers.{Not, proper}
+use Rattle.rules.proofs.Built.{Makes, makes, noughts, noughts-at}
+use Rattle.rules.proofs.Sequence.{in-order}
+
+-- Lookahead and number of edges stay what build made of them.
+pub record Fixed (look k : ℕ) (s : State) : Type 0 where
+  pub lookahead : s .lookahead ≡ look
+  pub edges : length (s .edges) ≡ k
+
+unfoldable Fixes : ℕ → ℕ → Out → Type 0
+Fixes look k o = Fixed look k (o .after)
+
+fixed-kept : (look k : ℕ) (s : State) (c : Counters) (call : Call) → Fixed look k s → Fixes look k (rule s c call)
+unfolding rule Fixes refreshed
+fixed-kept look k s c (AddInitial m) i = by-initial s c m (λ o. Fixes look k o) (record { alien = λ _. i; away = λ _ _. i; accept = λ _. record { lookahead = i .lookahead; edges = i .edges } })
+fixed-kept look k s c (Begin h b) i = by-begin s c h b (λ o. Fixes look k o) (record { alien = λ _. i; away = λ _ _. i; accept = λ _. record { lookahead = i .lookahead; edges = i .edges } })
+fixed-kept look k s c Step i = by-step s c (λ o. Fixes look k o) (record {
+  alien = λ _. i;
+  away = λ _ _. i;
+  batch = λ _ _ _ _. record { lookahead = i .lookahead; edges = i .edges };
+  spends = λ _ _ _. record { lookahead = i .lookahead; edges = i .edges };
+  rise = λ h _ _ _. record { lookahead = i .lookahead; edges = length-edges s (suc h) (s .edges) ∙ i .edges };
+  finish = λ h _ _ _ _. record { lookahead = i .lookahead; edges = length-edges s (suc h) (s .edges) ∙ i .edges };
+  stuck = λ h _ _ _ _. record { lookahead = i .lookahead; edges = length-edges s (suc h) (s .edges) ∙ i .edges };
+})
+fixed-kept look k s c (HandBack mask xs) i = by-back s c mask xs (λ o. Fixes look k o) (record {
+  alien = λ _. i;
+  dead = λ _. i;
+  empty = λ _. i;
+  malformed = i;
+  lost = λ _ _ _. record { lookahead = i .lookahead; edges = i .edges };
+  homeless = λ _ _. i;
+  spends = λ _ _ _. record { lookahead = i .lookahead; edges = i .edges };
+  commits = λ _ _ _. record { lookahead = i .lookahead; edges = i .edges };
+})
+
+-- All that is kept.
+pub record Sound (a : Setup) (y : History) : Type 0 where
+  pub shaped : Shaped (y .now)
+  pub tallied : Tallied y
+  pub paced : Paced y
+  pub fair : FairIn y
+  pub fixed : Fixed (L a) (E a) (y .now)
+  pub no-foreign : Never 11 (y .entries)
+  pub no-straggler : Never 33 (y .entries)
+
+sound-on : (a : Setup) (y : History) (k : Call) → Sound a y → Sound a (onward y k (rule (y .now) (y .counters) k))
+unfolding Shapes Tells Fixes Not FairIn
+sound-on a y k i =
+    let p = proper (y .now) (y .counters) (given (y .entries)) k (i .shaped) (i .fair) in
+    record {
+      shaped = shape-kept (y .now) (y .counters) k (i .shaped);
+      tallied = tells y (i .shaped) (i .tallied) k;
+      paced = pace-kept y k (i .shaped) (i .tallied .kept .hand) (i .paced);
+      fair = fair-kept y k (i .shaped) (i .fair);
+      fixed = fixed-kept (L a) (E a) (y .now) (y .counters) k (i .fixed);
+      no-foreign = (p .no-foreign, i .no-foreign);
+      no-straggler = (p .no-straggler, i .no-straggler);
+    }
+
+pub sound : (a : Setup) (y : History) (ks : List Call) → Sound a y → Sound a (tell y ks)
+unfolding tell
+sound a y [] i = i
+sound a y (k ∷ ks) i = sound a (onward y k (rule (y .now) (y .counters) k)) ks (sound-on a y k i)
+
+-- What build makes.
+fair-built : (a : Setup) → All (λ (e : Edge). e .bound ≡ a .lookahead) (built a .edges) → FairIn (fresh a)
+unfolding FairIn given built upTo
+fair-built a b =
+    let hs = noughts 0 (a .n) in
+    record {
+      order = tt;
+      above = tt;
+      floor = tt;
+      held = tt;
+      reach = all-map (λ (e : Edge). e .bound ≡ a .lookahead) (Reach hs (a .lookahead)) (λ e x. omega arith) (built a .edges) b;
+      capped = all-map (λ (e : Edge). e .bound ≡ a .lookahead) (Capped hs) (λ e x. omega (arith, noughts-at 0 (a .n) (e .destination))) (built a .edges) b;
+      under = tt;
+      fresh = λ _. (refl, noughts-at 0 (a .n));
+      opened = λ e. absurd (true≢false (sym e));
+    }
+
+tallied-built : (a : Setup) → Tallied (fresh a)
+unfolding built count inHand initials emitted History.handled remote rounds nulls workers used
+tallied-built a = record {
+  kept = record { hand = refl; lost = λ _. refl; sum = λ _. refl; used = omega arith };
+  counted = record { handled = omega arith; emitted = omega arith; remote = omega arith; rounds = omega arith; nulls = omega arith; workers = refl };
+}
+
+pub sound-built : (a : Setup) (c : Counters) → build a c .answer ≡ Accepted → Sound a (fresh a)
+sound-built a c e =
+    let m = makes a c e in
+    record {
+      shaped = m .shaped;
+      tallied = tallied-built a;
+      paced = paced-fresh a m;
+      fair = fair-built a (m .bounds);
+      fixed = fixed-built a m;
+      no-foreign = tt;
+      no-straggler = tt;
+    }
+  where
+    paced-fresh : (a : Setup) → Makes a → Paced (fresh a)
+    paced-fresh a m = unfold built in paced-built (built a) _ (m .shaped) refl (m .bounds)
+
+    fixed-built : (a : Setup) → Makes a → Fixed (L a) (E a) (built a)
+    fixed-built a m = record { lookahead = unfold built in refl; edges = m .edges }
+
+-- Reads of a state that 11 lets pass.
+read-answers : (s : State) (c : Counters) (r : Reading) → foreign s ≡ false → read s c r .answer ≡ Read r
+unfolding read unless if_then_else_
+read-answers s c r f = rw f
+
+pub demanded : (a : Setup) (y : History) → Sound a y → Demanded a y
+unfolding readPending readCounters
+demanded a y i =
+    let es = y .entries in
+    let f = passes-11 (y .now) (i .shaped) in
+    let k = i .tallied .counted in
+    record {
+      order = λ p. in-order p es (unfold FairIn in i .fair .order);
+      conserved = λ h. omega (arith, i .tallied .kept .sum h, ap length (i .tallied .kept .hand));
+      pending = read-answers (y .now) (y .counters) (Pending (length (y .now .pending))) f;
+      few-rounds = rw (i .fixed .lookahead) at (few-rounds y (i .shaped) (i .paced));
+      few-nulls = rw (i .fixed .lookahead, i .fixed .edges) at (few-nulls y (i .shaped) (i .paced));
+      counters = read-answers (y .now) (y .counters) (Counted (y .counters) (y .now .used)) f
+          ∙ (λ t. Read (Counted (record { handled = k .handled t; emitted = k .emitted t; remote = k .remote t; rounds = k .rounds t; nulls = k .nulls t; workers = k .workers t }) (i .tallied .kept .used t)));
+      no-foreign = i .no-foreign;
+      no-straggler = i .no-straggler;
+    }
+
+-- The theorem.
+pub demand-3 : (a : Setup) (c : Counters) → build a c .answer ≡ Accepted → (ks : List Call) → Demanded a (tell (fresh a) ks)
+demand-3 a c e ks = demanded a (tell (fresh a) ks) (sound a (fresh a) ks (sound-built a c e))
