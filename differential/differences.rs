@@ -3,29 +3,37 @@ use kairo_ecs_pdes::{ConservativeProcess, ConservativeRuntime, LpId, PartitionPl
 use kairo_ecs_types::{EntityId, SimDuration, SimTime};
 use std::collections::BTreeMap;
 
-/// A process that emits nothing.
-struct Silent;
+/// A process that emits nothing, or panics.
+struct Handler {
+    panics: bool,
+}
 
-impl ConservativeProcess for Silent {
+impl ConservativeProcess for Handler {
     fn on_event(&mut self, _: &RemoteEvent) -> Vec<RemoteEvent> {
+        assert!(!self.panics);
         Vec::new()
     }
 }
 
-/// Two processes with the edge 0 -> 1 and lookahead 1.
-fn one_edge() -> ConservativeRuntime<Silent> {
-    let plan = PartitionPlan::from_entities(2, SimDuration::from_ticks(1), vec![EntityId::new(0, 0)]).unwrap();
-    let topology = BTreeMap::from([(LpId(0), vec![LpId(1)]), (LpId(1), vec![])]);
-    let processes = BTreeMap::from([(LpId(0), Silent), (LpId(1), Silent)]);
+/// A runtime with lookahead 1 and these rows, whose handlers panic or do not.
+fn runtime(rows: &[&[u32]], panics: bool) -> ConservativeRuntime<Handler> {
+    let count = rows.len() as u32;
+    let plan = PartitionPlan::from_entities(count, SimDuration::from_ticks(1), vec![EntityId::new(0, 0)]).unwrap();
+    let topology = rows.iter().enumerate().map(|(p, row)| (LpId(p as u32), row.iter().map(|&d| LpId(d)).collect())).collect();
+    let processes: BTreeMap<_, _> = (0..count).map(|p| (LpId(p), Handler { panics })).collect();
     ConservativeRuntime::new(plan, topology, processes).unwrap()
+}
+
+/// An event from process 0 to itself.
+fn to_itself(tick: u128) -> RemoteEvent {
+    RemoteEvent { source_lp: LpId(0), dest_lp: LpId(0), tick: SimTime::from_ticks(tick), event_payload: vec![] }
 }
 
 /// D1: an event was handled and no null message was sent.
 fn no_null_message_after_an_event() {
-    let mut runtime = one_edge();
+    let mut runtime = runtime(&[&[1], &[]], false);
     for _ in 0..2 {
-        let event = RemoteEvent { source_lp: LpId(0), dest_lp: LpId(0), tick: SimTime::from_ticks(1), event_payload: vec![] };
-        runtime.schedule_initial(event).unwrap();
+        runtime.schedule_initial(to_itself(1)).unwrap();
     }
     let answer = runtime.run_until_with_budget(SimTime::from_ticks(1), 1);
     assert_eq!(answer, Err(RuntimeError::EventBudgetExceeded { budget: 1 }));
@@ -33,7 +41,18 @@ fn no_null_message_after_an_event() {
     assert_eq!(runtime.report().null_messages, 0);
 }
 
+/// D3: a panic poisons, and is told by the process.
+fn panic_in_a_handler() {
+    let mut runtime = runtime(&[&[]], true);
+    runtime.schedule_initial(to_itself(0)).unwrap();
+    std::panic::set_hook(Box::new(|_| {}));
+    assert_eq!(runtime.run_until_with_budget(SimTime::ZERO, 1), Err(RuntimeError::HandlerPanicked(LpId(0))));
+    assert_eq!(runtime.run_until_with_budget(SimTime::ZERO, 1), Err(RuntimeError::Poisoned));
+    let _ = std::panic::take_hook();
+}
+
 fn main() {
     no_null_message_after_an_event();
-    println!("differential: the Rust does what docs/DIFFERENCES.md says of it, 1 input");
+    panic_in_a_handler();
+    println!("differential: the Rust does what docs/DIFFERENCES.md says of it, 2 inputs");
 }

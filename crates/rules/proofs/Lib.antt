@@ -25,3 +25,4 @@ pub mod Numbers
 pub mod Built
 pub mod Sequence
 pub mod Demand
+pub mod Carried
