@@ -17,3 +17,4 @@ pub mod Plan
 pub mod Calls
 pub mod History
 pub mod Opened
+pub mod Rehearsals
