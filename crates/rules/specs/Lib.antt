@@ -18,3 +18,5 @@ pub mod Calls
 pub mod History
 pub mod Opened
 pub mod Rehearsals
+pub mod Told
+pub mod RefusalsBuild
