@@ -1,3 +1,6 @@
 -- What is proved of the definitions in specs/.
 pub mod Rehearsals
+pub mod Samples
 pub mod RefusalsBuild
+pub mod RefusalsForeign
+pub mod RefusalsCalls

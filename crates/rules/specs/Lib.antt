@@ -19,4 +19,7 @@ pub mod History
 pub mod Opened
 pub mod Rehearsals
 pub mod Told
+pub mod Samples
 pub mod RefusalsBuild
+pub mod RefusalsForeign
+pub mod RefusalsCalls
