@@ -4,3 +4,6 @@ pub mod Samples
 pub mod RefusalsBuild
 pub mod RefusalsForeign
 pub mod RefusalsCalls
+pub mod RefusalsBack
+pub mod RefusalsPlan
+pub mod Refusals
