@@ -25,6 +25,7 @@ refusing-back = record {
   r31-not = refl;
   r32 = λ c. refl;
   r33 = λ c. refl;
+  r33-not = refl;
   r19 = λ c. refl;
   r19-not = refl;
   r18 = λ c. refl;

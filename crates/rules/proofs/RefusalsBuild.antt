@@ -24,6 +24,7 @@ refusing-build = record {
   r5-left = λ c. refl;
   r5-lacking = λ c. refl;
   r5-edges = λ c. refl;
+  r5-not = refl;
   r5-uneven = λ c. refl;
   r6-one = λ c. refl;
   r6-all = λ c. refl;

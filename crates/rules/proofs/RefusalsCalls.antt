@@ -14,6 +14,7 @@ refusing-calls = record {
   r12-step = λ c. refl;
   order-12-25 = λ c. refl;
   order-12-23 = λ c. refl;
+  reads-counters = λ c. refl;
   reads-gvt = λ c. refl;
   reads-pending = λ c. refl;
   reads-earliest = λ c. refl;

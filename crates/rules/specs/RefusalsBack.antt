@@ -1,16 +1,16 @@
 -- Rows 24 to 33, 19 and 18 of document 01's table: what hand back refuses, an input for each, and which cause comes first where two hold.
 -- Of 12 and 11 there is an input among the other calls.
 use mathlib.Core.Path.{_≡_}
-use mathlib.Core.List.{List, [], _∷_}
+use mathlib.Core.List.{[], _∷_}
 use Prim.Native.Nat.{ℕ, _-_, _^_}
-use Rattle.rules.specs.State.{Counters, State, stored, zeros, withPending, withHandled, withFronts, withBatch, closed, poison}
+use Rattle.rules.specs.State.{State, zeros, withPending, withHandled, withFronts, closed, poison}
 use Rattle.rules.specs.Answers
-use Rattle.rules.specs.Answers.{Refused, number}
+use Rattle.rules.specs.Answers.{Committed, Refused, number}
 use Rattle.rules.specs.Rows.{out}
 use Rattle.rules.specs.HandBack.{Emission, handBack}
 use Rattle.rules.specs.Rehearsals.{message, event, emits}
 use Rattle.rules.specs.Told.{Gives, times}
-use Rattle.rules.specs.Samples.{edges, zero-zero, fresh, begun, in-hand, last-in-hand, two-in-hand, one-in-hand, manyEvents, full-in-hand}
+use Rattle.rules.specs.Samples.{edges, fresh, begun, in-hand, last-in-hand, two-in-hand, one-in-hand, full-in-hand}
 
 -- The process p emits, but names a as the source.
 abbrev pub posing : ℕ → ℕ → ℕ → ℕ → Emission
@@ -55,6 +55,8 @@ pub record RefusingBack : Type 0 where
   pub r32 : Gives (λ c. handBack in-hand c 0 (emits 1 0 4 ∷ [])) 32 (1 ∷ 2 ∷ 4 ∷ 5 ∷ []) (poison in-hand)
   -- "straggler: emission below the destination's local horizon"
   pub r33 : Gives (λ c. handBack ahead c 0 (emits 1 0 5 ∷ [])) 33 (0 ∷ 5 ∷ 9 ∷ []) (poison ahead)
+  -- At the local horizon it is none; and refresh lowers no local horizon.
+  pub r33-not : handBack ahead zeros 0 (emits 1 0 9 ∷ []) ≡ out (Committed 8) (withFronts (withHandled ahead (event 1 0 9 1 ∷ []) 2 1) edges (9 ∷ 9 ∷ []) 8) (record { handled = 1; emitted = 1; remote = 1; rounds = 1; nulls = 0; workers = 1 })
   -- "next sequence number would pass 2^64 - 1": two emissions, one is still fitting.
   pub r19 : Gives (λ c. handBack (numbered-at in-hand (2 ^ 64 - 2)) c 0 (emits 1 1 2 ∷ emits 1 1 2 ∷ [])) 19 [] (poison (numbered-at in-hand (2 ^ 64 - 2)))
   pub r19-not : number (handBack (numbered-at in-hand (2 ^ 64 - 2)) zeros 0 (emits 1 1 2 ∷ []) .answer) ≡ 0

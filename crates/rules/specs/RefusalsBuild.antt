@@ -1,10 +1,10 @@
 -- Rows 1 to 10 of document 01's table: what build turns away, an input for each, and which cause comes first where two hold.
 use mathlib.Core.Path.{_≡_}
 use mathlib.Core.Bool.{true, false}
-use mathlib.Core.List.{List, [], _∷_}
-use Prim.Native.Nat.{ℕ}
+use mathlib.Core.List.{List, [], _∷_, map}
+use Prim.Native.Nat.{ℕ, _+_, _/_, _%_}
 use Rattle.rules.specs.Base.{some, upTo}
-use Rattle.rules.specs.State.{State, Counters, unset, zeros}
+use Rattle.rules.specs.State.{Counters, unset, zeros}
 use Rattle.rules.specs.Answers.{Accepted, number}
 use Rattle.rules.specs.Build.{Setup, build, built}
 use Rattle.rules.specs.Rehearsals.{pair}
@@ -23,6 +23,10 @@ rowZero k ds = setup 2 3 both both (k ∷ 0 ∷ []) ds
 -- n processes without an edge.
 abbrev pub edgeless : ℕ → Setup
 edgeless n = setup n 3 (upTo n) (upTo n) (times n 0) []
+
+-- 32 processes with an edge to each of the 16 behind them: 512 edges.
+abbrev pub sixteen-each : Setup
+sixteen-each = setup 32 3 (upTo 32) (upTo 32) (times 32 16) (map (λ i. (i / 16 + 1 + i % 16) % 32) (upTo 512))
 
 pub record RefusingBuild : Type 0 where
   -- What the rehearsals start from.
@@ -47,6 +51,7 @@ pub record RefusingBuild : Type 0 where
   pub r5-left : TurnsAway (setup 2 3 both both (1 ∷ 0 ∷ []) (1 ∷ 0 ∷ [])) 5 []
   pub r5-lacking : TurnsAway (setup 2 3 both both (1 ∷ 1 ∷ []) (1 ∷ [])) 5 []
   pub r5-edges : TurnsAway (setup 2 3 both both (513 ∷ 0 ∷ []) (times 513 1)) 5 []
+  pub r5-not : number (build sixteen-each zeros .answer) ≡ 0
   -- More sources than counts.
   pub r5-uneven : TurnsAway (setup 2 3 both both (1 ∷ []) (1 ∷ [])) 5 []
   -- "a process has no row": "least such id"

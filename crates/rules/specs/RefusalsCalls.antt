@@ -1,19 +1,19 @@
 -- Rows 12 to 24 of document 01's table: what add initial, begin and step refuse, an input for each, and which cause comes first where two hold.
 -- Left out is 12 in step's last branch: no state that passes 11 reaches it, so there is no input to show.
 use mathlib.Core.Path.{_≡_}
-use mathlib.Core.List.{List, [], _∷_, _++_}
-use Prim.Native.Nat.{ℕ, zero, suc, _-_, _^_}
-use Rattle.rules.specs.State.{Message, State, zeros, withPending, closed, poison, most, top}
+use mathlib.Core.List.{List, [], _∷_}
+use Prim.Native.Nat.{ℕ, _-_, _^_}
+use Rattle.rules.specs.State.{Message, State, Counters, withPending, closed, poison, top}
 use Rattle.rules.specs.Answers
-use Rattle.rules.specs.Answers.{Answer, Accepted, Advanced, Finished, Refused}
-use Rattle.rules.specs.Build.{built}
+use Rattle.rules.specs.Answers.{Accepted, Advanced, Finished, Counted, Read, Refused}
+use Rattle.rules.specs.Rows.{out}
 use Rattle.rules.specs.Initial.{addInitial}
 use Rattle.rules.specs.Begin.{begin}
 use Rattle.rules.specs.Step.{step}
 use Rattle.rules.specs.HandBack.{handBack}
 use Rattle.rules.specs.Reads.{readGvt, readCounters, readPending, readEarliest}
-use Rattle.rules.specs.Calls.{Call, AddInitial, Begin, Step}
-use Rattle.rules.specs.Rehearsals.{pair, one-way, answers, numbers, returned, budget, message, emits, event, initial-at, no-events, at-two, handing-back}
+use Rattle.rules.specs.Calls.{Call, Begin, Step}
+use Rattle.rules.specs.Rehearsals.{pair, answers, numbers, returned, budget, message, event}
 use Rattle.rules.specs.Told.{Gives, times}
 use Rattle.rules.specs.Samples.{fresh, fresh-one-way, begun, in-hand, lost, finished, unpaid, manyEvents, full}
 
@@ -41,7 +41,8 @@ pub record RefusingCalls : Type 0 where
   pub order-12-25 : Gives (λ c. handBack lost c 0 []) 12 [] lost
   -- By hand: poisoned without an open run (23).
   pub order-12-23 : Gives (λ c. step (poison fresh) c) 12 [] (poison fresh)
-  -- The reads answer: GVT, how many are pending, the earliest pending tick (none is).
+  -- The reads answer: counters and used, GVT, how many are pending, the earliest pending tick (none is).
+  pub reads-counters : (c : Counters) → readCounters lost c ≡ out (Read (Counted c 0)) lost c
   pub reads-gvt : Gives (λ c. readGvt lost c) 0 (0 ∷ []) lost
   pub reads-pending : Gives (λ c. readPending lost c) 0 (0 ∷ []) lost
   pub reads-earliest : Gives (λ c. readEarliest lost c) 0 (top ∷ []) lost

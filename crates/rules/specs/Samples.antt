@@ -1,13 +1,13 @@
 -- States written out, for an input to each refusal. Those of `Sampled` are what calls lead to from a build.
 use mathlib.Core.Path.{_≡_}
-use mathlib.Core.Bool.{Bool, true, false}
-use mathlib.Core.List.{List, [], _∷_, _++_}
+use mathlib.Core.Bool.{true, false}
+use mathlib.Core.List.{List, [], _∷_}
 use Prim.Native.Nat.{ℕ, zero, suc, _-_, _^_}
-use Rattle.rules.specs.State.{Event, Edge, Message, Stored, unset, stored, State, zeros, withPending, withRun, poison}
+use Rattle.rules.specs.State.{Event, Edge, unset, stored, State, zeros, withPending, withRun, poison}
 use Rattle.rules.specs.Build.{built}
 use Rattle.rules.specs.Initial.{addInitial}
-use Rattle.rules.specs.Calls.{Call, AddInitial, Begin, Step, HandBack}
-use Rattle.rules.specs.Rehearsals.{pair, one-way, budget, message, event, emits, initial-at, no-events, at-two, handing-back, at-the-top}
+use Rattle.rules.specs.Calls.{AddInitial, Begin, Step}
+use Rattle.rules.specs.Rehearsals.{pair, one-way, budget, message, event, emits, initial-at, no-events, at-two, handing-back}
 use Rattle.rules.specs.Told.{reach}
 
 -- An edge with its first bound.

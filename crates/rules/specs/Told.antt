@@ -2,12 +2,12 @@
 use mathlib.Core.Path.{_≡_}
 use mathlib.Core.List.{List, [], _∷_, map}
 use Prim.Native.Nat.{ℕ}
-use Rattle.rules.specs.Base.{Maybe, none, some, upTo}
+use Rattle.rules.specs.Base.{Maybe, none, upTo}
 use Rattle.rules.specs.State.{State, Counters}
 use Rattle.rules.specs.Answers.{Entity, number, values}
 use Rattle.rules.specs.Rows.{Out}
 use Rattle.rules.specs.Build.{Setup, Made, build}
-use Rattle.rules.specs.Plan.{Laid, plan}
+use Rattle.rules.specs.Plan.{Laid}
 use Rattle.rules.specs.Calls.{Call, rule}
 
 -- Of a call on a state.
