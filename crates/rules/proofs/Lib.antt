@@ -7,3 +7,4 @@ pub mod RefusalsCalls
 pub mod RefusalsBack
 pub mod RefusalsPlan
 pub mod Refusals
+pub mod Beside

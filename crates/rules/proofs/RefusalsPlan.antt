@@ -13,6 +13,7 @@ refusing-plan = record {
   r2 = refl;
   r34 = refl;
   r35 = refl;
+  r35-behind = refl;
   r36-many = refl;
   r36-not = refl;
   r36-short = refl;

@@ -26,3 +26,4 @@ pub mod RefusalsCalls
 pub mod RefusalsBack
 pub mod RefusalsPlan
 pub mod Refusals
+pub mod Beside

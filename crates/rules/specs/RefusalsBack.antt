@@ -1,5 +1,5 @@
 -- Rows 24 to 33, 19 and 18 of document 01's table: what hand back refuses, an input for each, and which cause comes first where two hold.
--- Of 12 and 11 there is an input among the other calls.
+-- 11 and 12 stand with the other calls.
 use mathlib.Core.Path.{_≡_}
 use mathlib.Core.List.{[], _∷_}
 use Prim.Native.Nat.{ℕ, _-_, _^_}
@@ -77,6 +77,7 @@ pub record RefusingBack : Type 0 where
   -- "for its emissions in turn, 28 to 33"
   pub order-28-29 : Gives (λ c. handBack in-hand c 0 (posing 1 0 2 5 ∷ [])) 28 (1 ∷ 0 ∷ []) (poison in-hand)
   pub order-29-32 : Gives (λ c. handBack in-hand c 0 (emits 1 2 1 ∷ [])) 29 (2 ∷ []) (poison in-hand)
+  -- By hand: without the edge 1→0, process 1 has an event at 2^128 - 2 in hand.
   pub order-30-31 : Gives (λ c. handBack (one-in-hand 1 (2 ^ 128 - 2)) c 0 (emits 1 0 5 ∷ [])) 30 (1 ∷ 0 ∷ []) (poison (one-in-hand 1 (2 ^ 128 - 2)))
   pub order-31-32 : Gives (λ c. handBack (one-in-hand 0 (2 ^ 128 - 2)) c 0 (emits 0 1 5 ∷ [])) 31 (0 ∷ (2 ^ 128 - 2) ∷ 3 ∷ []) (poison (one-in-hand 0 (2 ^ 128 - 2)))
   pub order-32-33 : Gives (λ c. handBack ahead c 0 (emits 1 0 4 ∷ [])) 32 (1 ∷ 2 ∷ 4 ∷ 5 ∷ []) (poison ahead)

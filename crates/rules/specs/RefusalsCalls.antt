@@ -17,7 +17,7 @@ use Rattle.rules.specs.Rehearsals.{pair, answers, numbers, returned, bud
 use Rattle.rules.specs.Told.{Gives, times}
 use Rattle.rules.specs.Samples.{fresh, fresh-one-way, begun, in-hand, lost, finished, unpaid, manyEvents, full}
 
--- A payload of k bytes.
+-- From a to b, with a payload of k bytes.
 abbrev pub loaded-message : ℕ → ℕ → ℕ → Message
 loaded-message a b k = record { source = a; destination = b; tick = 2; payload = times k 0 }
 
@@ -25,7 +25,7 @@ loaded-message a b k = record { source = a; destination = b; tick = 2; payload =
 abbrev pub numbered-out : State
 numbered-out = withPending fresh [] (2 ^ 64 - 1)
 
--- By hand: everything that add initial checks is wrong, and the state full and numbered out besides; then one thing after the other is mended.
+-- By hand: without the edge 1→0, full, and numbered out.
 abbrev pub worn : State
 worn = withPending fresh-one-way (manyEvents 512) (2 ^ 64 - 1)
 
@@ -63,7 +63,7 @@ pub record RefusingCalls : Type 0 where
   -- "next sequence number would pass 2^64 - 1"
   pub r19 : Gives (λ c. addInitial numbered-out c (message 0 1 2)) 19 [] numbered-out
   pub r19-not : Gives (λ c. addInitial (withPending fresh [] (2 ^ 64 - 2)) c (message 0 1 2)) 0 [] (withPending fresh (event 0 1 2 (2 ^ 64 - 2) ∷ []) (2 ^ 64 - 1))
-  -- "Then add initial 13 to 19": all causes hold, then all but the first, and so on.
+  -- "Then add initial 13 to 19": from 14 on all causes hold, then all but the first, and so on.
   pub order-13-14 : Gives (λ c. addInitial begun c (message 2 0 2)) 13 [] begun
   pub order-14-15 : Gives (λ c. addInitial worn c (loaded-message 2 2 17)) 14 (2 ∷ []) worn
   pub order-15-16 : Gives (λ c. addInitial worn c (loaded-message 1 2 17)) 15 (2 ∷ []) worn

@@ -38,6 +38,7 @@ pub record RefusingPlan : Type 0 where
   pub r34 : Lays (plan 2 3 [] lent) 34 [] lent
   -- "entity twice": "least such entity", by its index and its generation.
   pub r35 : Lays (plan 2 3 twins lent) 35 (1 ∷ 1 ∷ []) lent
+  pub r35-behind : Lays (plan 2 3 (entity 1 0 ∷ entity 0 0 ∷ entity 1 0 ∷ []) lent) 35 (1 ∷ 0 ∷ []) lent
   -- "over 1,024 entities, or the lent list shorter"
   pub r36-many : Lays (plan 2 3 (crowd 1025) (crowd 1025)) 36 [] (crowd 1025)
   pub r36-not : number (plan 2 3 (crowd 1024) (crowd 1024) .answer) ≡ 0

@@ -1,16 +1,16 @@
--- States written out, for an input to each refusal. Those of `Sampled` are what calls lead to from a build.
+-- States written out, for an input to each refusal. `Sampled` says that calls lead to them from what build makes.
 use mathlib.Core.Path.{_≡_}
 use mathlib.Core.Bool.{true, false}
 use mathlib.Core.List.{List, [], _∷_}
 use Prim.Native.Nat.{ℕ, zero, suc, _-_, _^_}
-use Rattle.rules.specs.State.{Event, Edge, unset, stored, State, zeros, withPending, withRun, poison}
+use Rattle.rules.specs.State.{Event, Edge, unset, stored, State, zeros, withPending, withRun}
 use Rattle.rules.specs.Build.{built}
 use Rattle.rules.specs.Initial.{addInitial}
 use Rattle.rules.specs.Calls.{AddInitial, Begin, Step}
 use Rattle.rules.specs.Rehearsals.{pair, one-way, budget, message, event, emits, initial-at, no-events, at-two, handing-back}
 use Rattle.rules.specs.Told.{reach}
 
--- An edge with its first bound.
+-- An edge with its bound at first.
 abbrev pub edge : ℕ → ℕ → Edge
 edge a b = record { source = a; destination = b; bound = 3 }
 
@@ -46,14 +46,14 @@ in-run es q k h u b = record { n = 2; lookahead = 3; edges = es; pending = q; ne
 abbrev pub unpaid : State
 unpaid = in-run edges (event 0 1 2 0 ∷ []) 1 9 0 []
 
--- C3's batch in hand: process 1 handles its event at 2. And that batch lost: poisoned.
+-- C3's batch in hand, process 1's event at 2; and that batch lost, so poisoned.
 abbrev pub in-hand : State
 in-hand = in-run edges [] 1 9 budget (event 0 1 2 0 ∷ [])
 
 abbrev pub lost : State
-lost = poison in-hand
+lost = record { n = 2; lookahead = 3; edges = edges; pending = []; next = 1; horizons = zero-zero; gvt = 0; limits = stored 9 budget; used = 0; batch = []; initial = false; running = true; poisoned = true }
 
--- The same with budget 1, and a second event at 2 still pending.
+-- That batch with budget 1, and a second event at 2 still pending.
 abbrev pub last-in-hand : State
 last-in-hand = in-run edges (event 0 1 2 1 ∷ []) 2 9 1 (event 0 1 2 0 ∷ [])
 
