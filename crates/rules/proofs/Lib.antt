@@ -1,27 +1,42 @@
--- Theorems about the rules, each file on those before it.
+-- Computed cases: document 01's rehearsals, and an input for each refusal.
+pub mod Rehearsals
+pub mod Samples
+pub mod RefusalsBuild
+pub mod RefusalsForeign
+pub mod RefusalsCalls
+pub mod RefusalsBack
+pub mod RefusalsPlan
+pub mod Refusals
+pub mod Beside
+-- Tools: tests, lists, tables of refusals, and what each call can do.
 pub mod Tests
 pub mod Lists
 pub mod Table
 pub mod Cases
+-- What every call keeps, each file on those before it: the counts and the sum, ..
 pub mod Shape
 pub mod Counts
 pub mod Tally
 pub mod TallyCalls
-pub mod Order
-pub mod Take
-pub mod Checks
+-- .. rounds and null messages, and that a step never gets stuck, ..
 pub mod Fronts
 pub mod Unstuck
 pub mod Pace
 pub mod PaceMoves
 pub mod PaceCalls
+-- .. states that 11 lets pass, ..
+pub mod Order
+pub mod Take
+pub mod Checks
 pub mod ShapeCalls
+-- .. and the order in which events are handed out.
 pub mod Fair
 pub mod Emit
 pub mod Handed
 pub mod FairMoves
 pub mod FairCalls
 pub mod Numbers
+-- Demand 3.
 pub mod Built
 pub mod Sequence
 pub mod Demand

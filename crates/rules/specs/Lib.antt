@@ -14,7 +14,19 @@ pub mod Step
 pub mod HandBack
 pub mod Reads
 pub mod Plan
+-- Lists of calls, and demand 3 of them.
 pub mod Calls
 pub mod History
 pub mod Demand
 pub mod Opened
+-- Computed cases: document 01's rehearsals, states written out, and an input for each refusal.
+pub mod Rehearsals
+pub mod Told
+pub mod Samples
+pub mod RefusalsBuild
+pub mod RefusalsForeign
+pub mod RefusalsCalls
+pub mod RefusalsBack
+pub mod RefusalsPlan
+pub mod Refusals
+pub mod Beside

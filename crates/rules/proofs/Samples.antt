@@ -1,0 +1,24 @@
+-- Each holds by computation.
+use mathlib.Core.Path.{refl}
+use Rattle.rules.specs.Opened.{all-rules}
+use Rattle.rules.specs.Rehearsals.{pair, one-way}
+use Rattle.rules.specs.Told.{reach}
+use Rattle.rules.specs.Samples.{Sampled, manyEvents, filled}
+
+pub sampled : Sampled
+unfolding all-rules pair one-way reach manyEvents filled
+sampled = record {
+  fresh-built = refl;
+  one-way-built = refl;
+  begun-reached = refl;
+  finished-reached = refl;
+  unpaid-reached = refl;
+  in-hand-reached = refl;
+  lost-reached = refl;
+  last-reached = refl;
+  two-reached = refl;
+  one-reached = refl;
+  top-reached = refl;
+  full-reached = refl;
+  full-in-hand-reached = refl;
+}

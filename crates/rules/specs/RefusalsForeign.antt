@@ -1,0 +1,126 @@
+-- Row 11 of document 01's table: a state for each part of "A foreign state has ..", and states at the limits that are not foreign.
+use mathlib.Core.Path.{_≡_}
+use mathlib.Core.Bool.{Bool, true, false}
+use mathlib.Core.List.{List, [], _∷_, map}
+use Prim.Native.Nat.{ℕ, zero, suc, _+_, _-_, _^_, _/_, _%_}
+use Rattle.rules.specs.State.{Event, Edge, Stored, unset, stored, State, zeros, poison}
+use Rattle.rules.specs.Foreign.{foreign}
+use Rattle.rules.specs.Initial.{addInitial}
+use Rattle.rules.specs.Begin.{begin}
+use Rattle.rules.specs.Step.{step}
+use Rattle.rules.specs.HandBack.{handBack}
+use Rattle.rules.specs.Reads.{readGvt, readCounters, readPending, readEarliest}
+use Rattle.rules.specs.Calls.{AddInitial, Begin, Step}
+use Rattle.rules.specs.Rehearsals.{message, event}
+use Rattle.rules.specs.Told.{Gives, reach, times}
+use Rattle.rules.specs.Samples.{edge, edges, zero-zero, fresh, manyEvents}
+
+-- A state by what `foreign` looks at: n, L, edges, pending events, next sequence number, local horizons, stored horizon and budget, batch, run open.
+abbrev pub seen : ℕ → ℕ → List Edge → List Event → ℕ → List ℕ → Stored → List Event → Bool → State
+seen n L es q k hs l b run = record { n = n; lookahead = L; edges = es; pending = q; next = k; horizons = hs; gvt = 0; limits = l; used = 0; batch = b; initial = false; running = run; poisoned = false }
+
+-- An event from 0 to b at tick t, with a payload of k bytes.
+abbrev pub loaded : ℕ → ℕ → ℕ → ℕ → Event
+loaded b t i k = record { source = 0; destination = b; tick = t; sequence = i; payload = times k 0 }
+
+-- A good state, and its parts: two events are pending, one is in hand, the run is open.
+abbrev pub waiting : List Event
+waiting = event 0 0 7 1 ∷ event 0 1 3 2 ∷ []
+
+abbrev pub limits : Stored
+limits = stored 9 10
+
+abbrev pub batch : List Event
+batch = event 0 1 2 0 ∷ []
+
+abbrev pub good : State
+good = seen 2 3 edges waiting 3 zero-zero limits batch true
+
+-- k edges among 64 processes, none twice.
+unfoldable pub manyEdges : ℕ → List Edge
+manyEdges zero = []
+manyEdges (suc k) = edge (k / 63) ((k / 63 + 1 + k % 63) % 64) ∷ manyEdges k
+
+-- Events of k processes, from p on.
+unfoldable pub manyInHand : ℕ → ℕ → List Event
+manyInHand p zero = []
+manyInHand p (suc k) = event p p 0 p ∷ manyInHand (suc p) k
+
+-- L = 0.
+abbrev pub no-lookahead : State
+no-lookahead = seen 2 0 edges waiting 3 zero-zero limits batch true
+
+-- One field of the good state is spoilt, in the order of document 01's sentence.
+abbrev pub spoilt : List State
+spoilt =
+    -- "a process count outside 1 to 64"
+    seen 0 3 [] [] 3 [] limits [] true
+    ∷ seen 65 3 edges waiting 3 (times 65 0) limits batch true
+    -- "L = 0"
+    ∷ no-lookahead
+    -- "a count or length over its limit": edges, pending events, batch, payloads. A batch of 65 has a strange id or one twice besides.
+    ∷ seen 64 3 (manyEdges 513) waiting 3 (times 64 0) limits batch true
+    ∷ seen 2 3 edges (manyEvents 513) 513 zero-zero limits batch true
+    ∷ seen 64 3 edges waiting 3 (times 64 0) limits (manyInHand 0 65) true
+    ∷ seen 2 3 edges (event 0 0 7 1 ∷ loaded 1 3 2 17 ∷ []) 3 zero-zero limits batch true
+    ∷ seen 2 3 edges waiting 3 zero-zero limits (loaded 1 2 0 17 ∷ []) true
+    -- "an id not below n": of an edge, of a pending event, of one in hand; its source, its destination.
+    ∷ seen 2 3 (edge 0 1 ∷ edge 2 0 ∷ []) waiting 3 zero-zero limits batch true
+    ∷ seen 2 3 (edge 0 1 ∷ edge 1 2 ∷ []) waiting 3 zero-zero limits batch true
+    ∷ seen 2 3 edges (event 2 0 7 1 ∷ event 0 1 3 2 ∷ []) 3 zero-zero limits batch true
+    ∷ seen 2 3 edges (event 0 0 7 1 ∷ event 0 2 3 2 ∷ []) 3 zero-zero limits batch true
+    ∷ seen 2 3 edges waiting 3 zero-zero limits (event 2 1 2 0 ∷ []) true
+    ∷ seen 2 3 edges waiting 3 zero-zero limits (event 0 2 2 0 ∷ []) true
+    -- "an edge twice or to its own source"
+    ∷ seen 2 3 (edge 0 1 ∷ edge 1 0 ∷ edge 0 1 ∷ []) waiting 3 zero-zero limits batch true
+    ∷ seen 2 3 (edge 0 1 ∷ edge 1 1 ∷ []) waiting 3 zero-zero limits batch true
+    -- "pending events not strictly rising by (destination, tick, source, sequence)": each of the four falls; one event twice.
+    ∷ seen 2 3 edges (event 0 1 3 2 ∷ event 0 0 7 1 ∷ []) 3 zero-zero limits batch true
+    ∷ seen 2 3 edges (event 0 1 4 1 ∷ event 0 1 3 2 ∷ []) 3 zero-zero limits batch true
+    ∷ seen 2 3 edges (event 1 1 3 1 ∷ event 0 1 3 2 ∷ []) 3 zero-zero limits batch true
+    ∷ seen 2 3 edges (event 0 1 3 2 ∷ event 0 1 3 1 ∷ []) 3 zero-zero limits batch true
+    ∷ seen 2 3 edges (event 0 1 3 2 ∷ event 0 1 3 2 ∷ []) 3 zero-zero limits batch true
+    -- "a pending sequence not below the next one"
+    ∷ seen 2 3 edges waiting 2 zero-zero limits batch true
+    -- "a stored horizon of 2^128 - 1"
+    ∷ seen 2 3 edges waiting 3 zero-zero (stored (2 ^ 128 - 1) 10) batch true
+    -- "an open run without a stored horizon"
+    ∷ seen 2 3 edges waiting 3 zero-zero unset batch true
+    -- "a batch without an open run"
+    ∷ seen 2 3 edges waiting 3 zero-zero limits batch false
+    -- "or a batch not strictly rising by process": it falls; a process twice.
+    ∷ seen 2 3 edges waiting 3 zero-zero limits (event 0 1 2 0 ∷ event 0 0 2 0 ∷ []) true
+    ∷ seen 2 3 edges waiting 3 zero-zero limits (event 0 1 1 0 ∷ event 0 1 2 0 ∷ []) true
+    -- One local horizon for each process: one is lacking, one is too many.
+    ∷ seen 2 3 edges waiting 3 (0 ∷ []) limits batch true
+    ∷ seen 2 3 edges waiting 3 (0 ∷ 0 ∷ 0 ∷ []) limits batch true
+    ∷ []
+
+-- The good state; 1 process, 64 processes, 512 edges, 512 pending events, a batch of 64, payloads of 16, a horizon of 2^128 - 2.
+abbrev pub at-limits : List State
+at-limits =
+    good
+    ∷ seen 1 3 [] [] 3 (0 ∷ []) limits [] true
+    ∷ seen 64 3 (manyEdges 512) (manyEvents 512) 512 (times 64 0) (stored (2 ^ 128 - 2) 10) (manyInHand 0 64) true
+    ∷ seen 2 3 edges (event 0 0 7 1 ∷ loaded 1 3 2 16 ∷ []) 3 zero-zero limits (loaded 1 2 0 16 ∷ []) true
+    ∷ []
+
+pub record RefusingForeign : Type 0 where
+  -- The good state is one that calls lead to.
+  pub good-reached : reach fresh zeros (AddInitial (message 0 1 2) ∷ AddInitial (message 0 0 7) ∷ AddInitial (message 0 1 3) ∷ Begin 9 10 ∷ Step ∷ []) ≡ good
+  pub r11 : map foreign spoilt ≡ map (λ s. true) spoilt
+  pub r11-not : map foreign at-limits ≡ map (λ s. false) at-limits
+  -- "Every later call on a state checks 11 first": the reads too. "state as given"
+  pub r11-initial : Gives (λ c. addInitial no-lookahead c (message 0 1 2)) 11 [] no-lookahead
+  pub r11-begin : Gives (λ c. begin no-lookahead c 9 10) 11 [] no-lookahead
+  pub r11-step : Gives (λ c. step no-lookahead c) 11 [] no-lookahead
+  pub r11-hand-back : Gives (λ c. handBack no-lookahead c 0 []) 11 [] no-lookahead
+  pub r11-gvt : Gives (λ c. readGvt no-lookahead c) 11 [] no-lookahead
+  pub r11-counters : Gives (λ c. readCounters no-lookahead c) 11 [] no-lookahead
+  pub r11-pending : Gives (λ c. readPending no-lookahead c) 11 [] no-lookahead
+  pub r11-earliest : Gives (λ c. readEarliest no-lookahead c) 11 [] no-lookahead
+  -- 11 before 12: the state is poisoned besides.
+  pub order-11-12-initial : Gives (λ c. addInitial (poison no-lookahead) c (message 0 1 2)) 11 [] (poison no-lookahead)
+  pub order-11-12-begin : Gives (λ c. begin (poison no-lookahead) c 9 10) 11 [] (poison no-lookahead)
+  pub order-11-12-step : Gives (λ c. step (poison no-lookahead) c) 11 [] (poison no-lookahead)
+  pub order-11-12-hand-back : Gives (λ c. handBack (poison no-lookahead) c 0 []) 11 [] (poison no-lookahead)
