@@ -85,7 +85,7 @@ pub record BeginPassed (s : State) (h : ℕ) : Type 0 where
   pub passes : foreign s ≡ false
   pub healthy : s .poisoned ≡ false
   pub idle : s .running ≡ false
-  pub later : previous (s .limits) ≤ h
+  pub later : previous (s .stored) ≤ h
   pub below : h < top
 
 pub record BeginCases (s : State) (c : Counters) (h b : ℕ) (P : Out → Type 0) : Type 0 where
@@ -102,7 +102,7 @@ by-begin s c h b P k =
       passes = p .0;
       healthy = p .1 .0;
       idle = p .1 .1 .0;
-      later = ltb-false h (previous (s .limits)) (p .1 .1 .1 .0);
+      later = ltb-false h (previous (s .stored)) (p .1 .1 .1 .0);
       below = leb-false top h (p .1 .1 .1 .1 .0);
     }))
 
@@ -112,7 +112,7 @@ pub record Steps (s : State) (h b : ℕ) : Type 0 where
   pub healthy : s .poisoned ≡ false
   pub open-run : s .running ≡ true
   pub empty : s .batch ≡ []
-  pub limits : s .limits ≡ stored h b
+  pub stored : s .stored ≡ stored h b
 
 -- No event was taken, and 24 does not hold: what leads to an advance.
 pub record Advances (s : State) (h b : ℕ) : Type 0 where
@@ -137,17 +137,17 @@ module _ (s : State) (c : Counters) (P : Out → Type 0) (k : StepCases s c P) w
       by-test P (λ v. k .rise h b (record { steps = i; none-taken = t; not-spent = u }) v)
       (λ v. by-test P (λ w. k .finish h b (record { steps = i; none-taken = t; not-spent = u }) v w) (λ w. k .stuck h b (record { steps = i; none-taken = t; not-spent = u }) v w))))
 
-  step-at : (l : Stored) → s .limits ≡ l → foreign s ≡ false → s .poisoned ≡ false → s .running ≡ true → s .batch ≡ [] → P (stepAt s c l)
+  step-at : (l : Stored) → s .stored ≡ l → foreign s ≡ false → s .poisoned ≡ false → s .running ≡ true → s .batch ≡ [] → P (stepAt s c l)
   unfolding stepAt refusalNumber
   step-at unset e a u r z = k .away _ (record { not-11 = refl; not-33 = refl })
-  step-at (stored h b) e a u r z = step-run h b (record { passes = a; healthy = u; open-run = r; empty = z; limits = e })
+  step-at (stored h b) e a u r z = step-run h b (record { passes = a; healthy = u; open-run = r; empty = z; stored = e })
 
   pub by-step : P (step s c)
   unfolding step refusalNumber
   by-step =
       by-firsts P (stepRows s) _ _
       (k .alien, λ a. ((λ _. k .away _ (record { not-11 = refl; not-33 = refl })), λ u. ((λ _. k .away _ (record { not-11 = refl; not-33 = refl })), λ t. tt)))
-      (λ p. step-at (s .limits) refl (p .0) (p .1 .0) (not-false (s .running) (or-left (not (s .running)) (nonEmpty (s .batch)) (p .1 .1 .0))) (empty-nil (s .batch) (or-right (not (s .running)) (nonEmpty (s .batch)) (p .1 .1 .0))))
+      (λ p. step-at (s .stored) refl (p .0) (p .1 .0) (not-false (s .running) (or-left (not (s .running)) (nonEmpty (s .batch)) (p .1 .1 .0))) (empty-nil (s .batch) (or-right (not (s .running)) (nonEmpty (s .batch)) (p .1 .1 .0))))
 
 -- A hand back that is not malformed.
 pub record Replies (s : State) (mask : ℕ) (xs : List Emission) : Type 0 where
@@ -160,7 +160,7 @@ pub record Replies (s : State) (mask : ℕ) (xs : List Emission) : Type 0 where
 pub record Commits (s : State) (mask : ℕ) (xs : List Emission) (h b : ℕ) : Type 0 where
   pub reply : Replies s mask xs
   pub passed : Passed (poisonRows s mask xs)
-  pub limits : s .limits ≡ stored h b
+  pub stored : s .stored ≡ stored h b
 
 pub record BackCases (s : State) (c : Counters) (mask : ℕ) (xs : List Emission) (P : Out → Type 0) : Type 0 where
   pub alien : foreign s ≡ true → P (refuse s c Answers.ForeignState)
@@ -168,7 +168,7 @@ pub record BackCases (s : State) (c : Counters) (mask : ℕ) (xs : List Emission
   pub empty : s .batch ≡ [] → P (refuse s c Answers.NoBatch)
   pub malformed : P (refuse s c Answers.MalformedReply)
   pub lost : Replies s mask xs → (r : Refusal) → Losing r → P (lose s c r)
-  pub homeless : Replies s mask xs → s .limits ≡ unset → P (refuse s c Answers.NoBatch)
+  pub homeless : Replies s mask xs → s .stored ≡ unset → P (refuse s c Answers.NoBatch)
   pub spends : (h b : ℕ) → Commits s mask xs h b → P (out (Refused (Answers.EventBudgetExceeded b)) (closed (handled s xs)) (countRound c (s .batch) xs))
   pub commits : (h b : ℕ) → Commits s mask xs h b → let u = refreshed (handled s xs) h (s .edges) (s .edges) (s .horizons) in P (out (Committed (u .gvt)) u (countRound c (s .batch) xs))
 
@@ -199,16 +199,16 @@ all-losing Q f [] i = tt
 all-losing Q f (r ∷ rs) i = (f (r .refusal) (i .0), all-losing Q f rs (i .1))
 
 module _ (s : State) (c : Counters) (mask : ℕ) (xs : List Emission) (P : Out → Type 0) (k : BackCases s c mask xs P) where
-  back-commit : Replies s mask xs → Passed (poisonRows s mask xs) → (l : Stored) → s .limits ≡ l → P (commitAt s c l xs)
+  back-commit : Replies s mask xs → Passed (poisonRows s mask xs) → (l : Stored) → s .stored ≡ l → P (commitAt s c l xs)
   unfolding commitAt commit
   back-commit i p unset e = k .homeless i e
-  back-commit i p (stored h b) e = by-test P (λ _. k .spends h b (record { reply = i; passed = p; limits = e })) (λ _. k .commits h b (record { reply = i; passed = p; limits = e }))
+  back-commit i p (stored h b) e = by-test P (λ _. k .spends h b (record { reply = i; passed = p; stored = e })) (λ _. k .commits h b (record { reply = i; passed = p; stored = e }))
 
-  back-checked : Replies s mask xs → P (unless (poisonRows s mask xs) (lose s c) (commitAt s c (s .limits) xs))
+  back-checked : Replies s mask xs → P (unless (poisonRows s mask xs) (lose s c) (commitAt s c (s .stored) xs))
   back-checked i =
       by-firsts P (poisonRows s mask xs) _ _
       (firsts-all (λ r. P (lose s c r)) (poisonRows s mask xs) (all-losing (λ r. P (lose s c r)) (k .lost i) (poisonRows s mask xs) (losing-rows s mask xs)))
-      (λ p. back-commit i p (s .limits) refl)
+      (λ p. back-commit i p (s .stored) refl)
 
   pub by-back : P (handBack s c mask xs)
   unfolding handBack

@@ -66,7 +66,7 @@ module _ (y : History) (w : Shaped (y .now)) (i : FairAt (given (y .entries)) (y
       let hs : List ℕ = newHorizons s (suc h) in
       let one = fair-raised g (s .pending) (s .edges) (s .horizons) (s .lookahead) (suc h) (s .initial) (s .running) (aim s (suc h)) (λ _. suc h) (w .queued .order) o (λ p. omega arith) (λ p. omega arith) (fair-empty g (s .pending) (s .batch) (s .edges) (s .horizons) (s .lookahead) (s .initial) (s .running) i) in
       let two = fair-raised g (s .pending) (s .edges) hs (s .lookahead) (suc h) (s .initial) (s .running) (refreshTo (s .edges) (suc h) (s .pending)) (safe (s .edges) (suc h)) (w .queued .order) o (λ p. omega arith) (λ p. omega arith) one in
-      fair-bounds s (suc h) g hs (refreshTo (s .edges) (suc h) (s .pending)) refl (below-top (s .limits) h b (k .limits) (w .runs .below)) w (i .reach) two
+      fair-bounds s (suc h) g hs (refreshTo (s .edges) (suc h) (s .pending)) refl (below-top (s .stored) h b (k .stored) (w .runs .below)) w (i .reach) two
 
   -- The same with the batch as it was, which is empty.
   unmoved-batch : (h b : ℕ) → Steps (y .now) h b → FairAt (given (y .entries)) (advanced (y .now) h)

@@ -144,7 +144,7 @@ module _ (s : State) (g : List Event) (ahead : 0 < s .lookahead) (i : FairAt g s
   back-no-straggler c mask xs =
       by-firsts (Not 33) (backRows s mask xs) _ _
       ((λ _. another 33 _ refl), λ _. ((λ _. another 33 _ refl), λ _. ((λ _. another 33 _ refl), λ _. ((λ _. another 33 _ refl), λ _. tt))))
-      (λ _. by-firsts (Not 33) (poisonRows s mask xs) _ _ (mild-lost c (poisonRows s mask xs) (mild-rows mask xs)) (λ _. commit-mild c xs (s .limits)))
+      (λ _. by-firsts (Not 33) (poisonRows s mask xs) _ _ (mild-lost c (poisonRows s mask xs) (mild-rows mask xs)) (λ _. commit-mild c xs (s .stored)))
 
 pub proper : (s : State) (c : Counters) (g : List Event) (k : Call) → Shaped s → FairAt g s → Proper (rule s c k)
 unfolding rule

@@ -60,7 +60,7 @@ pub record Pace (k : Counts) (L : ℕ) (es : List Edge) (hs : List ℕ) (l : Sto
   pub commits : k .commits ≤ k .handled
 
 unfoldable pub Paced : History → Type 0
-Paced y = Pace (countsOf (y .entries)) (y .now .lookahead) (y .now .edges) (y .now .horizons) (y .now .limits)
+Paced y = Pace (countsOf (y .entries)) (y .now .lookahead) (y .now .edges) (y .now .horizons) (y .now .stored)
 
 -- The sends are few.
 sends-far : (d S L F E R : ℕ) → 0 < L → (S + 1) * L ≤ F + R * L → F ≤ E → S + 1 ≡ d + R → S ≤ E / L + R
@@ -93,12 +93,12 @@ module _ (k : Counts) (L : ℕ) (es : List Edge) (hs : List ℕ) (l : Stored) (p
 -- Null messages are at most E x (floor(H / L) + R).
 pub few-nulls : (y : History) → Shaped (y .now) → Paced y → nulls (y .entries) ≤ length (y .now .edges) * (H (y .entries) / y .now .lookahead + R (y .entries))
 unfolding Paced countsOf
-few-nulls y s i = pace-nulls (countsOf (y .entries)) (y .now .lookahead) (y .now .edges) (y .now .horizons) (y .now .limits) (s .sized .ahead) i
+few-nulls y s i = pace-nulls (countsOf (y .entries)) (y .now .lookahead) (y .now .edges) (y .now .horizons) (y .now .stored) (s .sized .ahead) i
 
 -- Rounds are at most handled + floor(H / L) + 2 x R.
 pub few-rounds : (y : History) → Shaped (y .now) → Paced y → rounds (y .entries) ≤ handled (y .entries) + H (y .entries) / y .now .lookahead + 2 * R (y .entries)
 unfolding Paced countsOf rounds
-few-rounds y s i = pace-rounds (countsOf (y .entries)) (y .now .lookahead) (y .now .edges) (y .now .horizons) (y .now .limits) (s .sized .ahead) i
+few-rounds y s i = pace-rounds (countsOf (y .entries)) (y .now .lookahead) (y .now .edges) (y .now .horizons) (y .now .stored) (s .sized .ahead) i
 
 -- What build makes: every bound is L, nothing is counted.
 all-zero : (hs : List ℕ) → every (leb 0) hs ≡ true
@@ -124,6 +124,6 @@ pace-none L es hs l u b = record {
   commits = omega arith;
 }
 
-pub paced-built : (s : State) (c : Counters) → Shaped s → s .limits ≡ unset → All (λ (e : Edge). e .bound ≡ s .lookahead) (s .edges) → Paced (record { entries = []; now = s; counters = c })
+pub paced-built : (s : State) (c : Counters) → Shaped s → s .stored ≡ unset → All (λ (e : Edge). e .bound ≡ s .lookahead) (s .edges) → Paced (record { entries = []; now = s; counters = c })
 unfolding Paced
-paced-built s c i u b = pace-none (s .lookahead) (s .edges) (s .horizons) (s .limits) u b
+paced-built s c i u b = pace-none (s .lookahead) (s .edges) (s .horizons) (s .stored) u b

@@ -28,15 +28,15 @@ use Rattle.rules.proofs.Pace.{Counts, countsOf, endOf, front, Pace, Pac
 use Rattle.rules.proofs.PaceMoves.{begun, moved, Kind, counts-quiet, counts-begun, counts-moved, counts-returned, pace-stay, pace-begun, pace-sent, pace-lift, pace-returned}
 
 -- An advance
-module _ (s : State) (h b : ℕ) (w : Shaped s) (a : Advances s h b) (k : Counts) (i : Pace k (s .lookahead) (s .edges) (s .horizons) (s .limits)) where
+module _ (s : State) (h b : ℕ) (w : Shaped s) (a : Advances s h b) (k : Counts) (i : Pace k (s .lookahead) (s .edges) (s .horizons) (s .stored)) where
   end-is : k .end ≡ suc h
   unfolding endOf
-  end-is = i .end ∙ ap endOf (a .steps .limits)
+  end-is = i .end ∙ ap endOf (a .steps .stored)
 
   -- The fronts after it, whatever rose.
-  shifted : (to : ℕ → ℕ) → Pace k (s .lookahead) (newEdges s (suc h)) (raised to 0 (newHorizons s (suc h))) (s .limits)
+  shifted : (to : ℕ → ℕ) → Pace k (s .lookahead) (newEdges s (suc h)) (raised to 0 (newHorizons s (suc h))) (s .stored)
   shifted to =
-      pace-stay k (s .lookahead) (s .edges) (newEdges s (suc h)) (s .horizons) (raised to 0 (newHorizons s (suc h))) (s .limits) i (length-edges s (suc h) (s .edges)) (low-grows s (suc h) (s .edges) (max (k .end) (s .lookahead)))
+      pace-stay k (s .lookahead) (s .edges) (newEdges s (suc h)) (s .horizons) (raised to 0 (newHorizons s (suc h))) (s .stored) i (length-edges s (suc h) (s .edges)) (low-grows s (suc h) (s .edges) (max (k .end) (s .lookahead)))
       (λ u. all-stay to (k .end) 0 (newHorizons s (suc h)) (all-stay (aim s (suc h)) (k .end) 0 (s .horizons) u))
 
   -- Everybody aims at the front or beyond.
@@ -61,14 +61,14 @@ module _ (s : State) (h b : ℕ) (w : Shaped s) (a : Advances s h b) (k : Counts
       (λ d. not-both (or-else (ltb 0 (nullsOf s (suc h))) (anyRaised (s .horizons) (newHorizons s (suc h))) (le-ltb 0 (nullsOf s (suc h)) (omega arith)) t) (none-raised (aim s (suc h)) (k .end) 0 (s .horizons) (λ p. omega (arith, aim-le s (suc h) p, end-is)) d))
       (λ d. d)
 
-  pub pace-rose : (to : ℕ → ℕ) → rose s (suc h) ≡ true → Pace (moved k (nullsOf s (suc h))) (s .lookahead) (newEdges s (suc h)) (raised to 0 (newHorizons s (suc h))) (s .limits)
+  pub pace-rose : (to : ℕ → ℕ) → rose s (suc h) ≡ true → Pace (moved k (nullsOf s (suc h))) (s .lookahead) (newEdges s (suc h)) (raised to 0 (newHorizons s (suc h))) (s .stored)
   pace-rose to t =
       by-bool (ltb 0 (nullsOf s (suc h)))
       (λ e. let r : 0 < nullsOf s (suc h) = ltb-true _ _ e in
-      pace-sent k (s .lookahead) (nullsOf s (suc h)) (s .edges) (newEdges s (suc h)) (raised to 0 (newHorizons s (suc h))) (s .limits)
+      pace-sent k (s .lookahead) (nullsOf s (suc h)) (s .edges) (newEdges s (suc h)) (raised to 0 (newHorizons s (suc h))) (s .stored)
       (i .sending (front-low r)) r (count-le s (suc h) (s .edges)) (length-edges s (suc h) (s .edges)) (low-grows s (suc h) (s .edges) (max (k .end) (s .lookahead))) front-far (shifted to))
       (λ e. let z : nullsOf s (suc h) ≡ 0 = omega (arith, ltb-false 0 (nullsOf s (suc h)) e) in
-      rw z (pace-lift k (s .lookahead) (newEdges s (suc h)) (raised to 0 (newHorizons s (suc h))) (s .limits) (i .lifting (horizons-low z t)) (rw end-is (horizons-high s h b w a to z)) (shifted to)))
+      rw z (pace-lift k (s .lookahead) (newEdges s (suc h)) (raised to 0 (newHorizons s (suc h))) (s .stored) (i .lifting (horizons-low z t)) (rw end-is (horizons-high s h b w a to z)) (shifted to)))
 
 -- What a call that came out as o is to show.
 unfoldable pub Going : History → Call → Out → Type 0
@@ -76,27 +76,27 @@ Going y k o = Paced (onward y k o)
 
 -- The pace of a state with the counts of a list of calls.
 unfoldable At : List Entry → State → Type 0
-At es s = Pace (countsOf es) (s .lookahead) (s .edges) (s .horizons) (s .limits)
+At es s = Pace (countsOf es) (s .lookahead) (s .edges) (s .horizons) (s .stored)
 
 -- By the kind of the call: the pace that is left to show.
 module _ (y : History) (k : Call) (r : Answer) (s : State) (c : Counters) where
   going-quiet : Kind (entry (y .now) k (out r s c)) false false false → At (y .entries) s → Going y k (out r s c)
   unfolding Going Paced At
-  going-quiet x i = subst (λ (n : Counts). Pace n (s .lookahead) (s .edges) (s .horizons) (s .limits)) (sym (counts-quiet (entry (y .now) k (out r s c)) (y .entries) x)) i
+  going-quiet x i = subst (λ (n : Counts). Pace n (s .lookahead) (s .edges) (s .horizons) (s .stored)) (sym (counts-quiet (entry (y .now) k (out r s c)) (y .entries) x)) i
 
-  going-begun : Kind (entry (y .now) k (out r s c)) true false false → Pace (begun (countsOf (y .entries)) (horizon k)) (s .lookahead) (s .edges) (s .horizons) (s .limits) → Going y k (out r s c)
+  going-begun : Kind (entry (y .now) k (out r s c)) true false false → Pace (begun (countsOf (y .entries)) (horizon k)) (s .lookahead) (s .edges) (s .horizons) (s .stored) → Going y k (out r s c)
   unfolding Going Paced
-  going-begun x i = subst (λ (n : Counts). Pace n (s .lookahead) (s .edges) (s .horizons) (s .limits)) (sym (counts-begun (entry (y .now) k (out r s c)) (y .entries) x)) i
+  going-begun x i = subst (λ (n : Counts). Pace n (s .lookahead) (s .edges) (s .horizons) (s .stored)) (sym (counts-begun (entry (y .now) k (out r s c)) (y .entries) x)) i
 
-  going-moved : Kind (entry (y .now) k (out r s c)) false true false → Pace (moved (countsOf (y .entries)) (countRaised (y .now .edges) (s .edges))) (s .lookahead) (s .edges) (s .horizons) (s .limits) → Going y k (out r s c)
+  going-moved : Kind (entry (y .now) k (out r s c)) false true false → Pace (moved (countsOf (y .entries)) (countRaised (y .now .edges) (s .edges))) (s .lookahead) (s .edges) (s .horizons) (s .stored) → Going y k (out r s c)
   unfolding Going Paced
-  going-moved x i = subst (λ (n : Counts). Pace n (s .lookahead) (s .edges) (s .horizons) (s .limits)) (sym (counts-moved (entry (y .now) k (out r s c)) (y .entries) x)) i
+  going-moved x i = subst (λ (n : Counts). Pace n (s .lookahead) (s .edges) (s .horizons) (s .stored)) (sym (counts-moved (entry (y .now) k (out r s c)) (y .entries) x)) i
 
   going-returned : Kind (entry (y .now) k (out r s c)) false false true → 0 < length (inHand (y .entries)) → At (y .entries) s → Going y k (out r s c)
   unfolding Going Paced At
   going-returned x p i =
-      subst (λ (n : Counts). Pace n (s .lookahead) (s .edges) (s .horizons) (s .limits)) (sym (counts-returned (entry (y .now) k (out r s c)) (y .entries) x))
-      (pace-returned (countsOf (y .entries)) (s .lookahead) (length (inHand (y .entries))) (s .edges) (s .horizons) (s .limits) p i)
+      subst (λ (n : Counts). Pace n (s .lookahead) (s .edges) (s .horizons) (s .stored)) (sym (counts-returned (entry (y .now) k (out r s c)) (y .entries) x))
+      (pace-returned (countsOf (y .entries)) (s .lookahead) (length (inHand (y .entries))) (s .edges) (s .horizons) (s .stored) p i)
 
 -- Add initial
 module _ (y : History) (m : Message) (w : Shaped (y .now)) (i : Paced y) where
@@ -127,7 +127,7 @@ module _ (y : History) (h b : ℕ) (w : Shaped (y .now)) (i : Paced y) where
   unfolding Paced isBegin isHandBack refused isCommitted isAdvanced horizon
   begin-accepted p =
       going-begun y (Begin h b) Accepted (withRun (y .now) h b) (y .counters) (record { begins = refl; advanced = refl; commits = refl })
-      (pace-begun (countsOf (y .entries)) (y .now .lookahead) h b (y .now .edges) (y .now .horizons) (y .now .limits) i (omega (arith, i .end, end-previous (y .now .limits), p .later)))
+      (pace-begun (countsOf (y .entries)) (y .now .lookahead) h b (y .now .edges) (y .now .horizons) (y .now .stored) i (omega (arith, i .end, end-previous (y .now .stored), p .later)))
 
   going-begin : Going y (Begin h b) (rule (y .now) (y .counters) (Begin h b))
   unfolding rule
@@ -184,7 +184,7 @@ module _ (y : History) (mask : ℕ) (xs : List Emission) (w : Shaped (y .now)) (
 
   back-refreshed : (h : ℕ) → At (y .entries) (refreshed (handled (y .now) xs) h (y .now .edges) (y .now .edges) (y .now .horizons))
   unfolding Paced At refreshed
-  back-refreshed h = pace-stay (countsOf (y .entries)) (y .now .lookahead) (y .now .edges) (y .now .edges) (y .now .horizons) _ (y .now .limits) i refl (omega arith) (all-stay _ (countsOf (y .entries) .end) 0 (y .now .horizons))
+  back-refreshed h = pace-stay (countsOf (y .entries)) (y .now .lookahead) (y .now .edges) (y .now .edges) (y .now .horizons) _ (y .now .stored) i refl (omega arith) (all-stay _ (countsOf (y .entries) .end) 0 (y .now .horizons))
 
   going-back : Going y (HandBack mask xs) (rule (y .now) (y .counters) (HandBack mask xs))
   unfolding rule Paced At refusalNumber

@@ -60,7 +60,7 @@ pub record Shaped (s : State) : Type 0 where
   pub wired : Wired (s .n) (s .edges)
   pub queued : Queued (s .n) (s .next) (s .pending)
   pub held : Held (s .n) (s .batch)
-  pub runs : Runs (s .limits) (s .batch) (s .running)
+  pub runs : Runs (s .stored) (s .batch) (s .running)
 
 long-short : (e : Event) → longEvent e ≡ false → Short e
 long-short e h = record { payload = ltb-false 16 (length (e .payload)) h }
@@ -172,7 +172,7 @@ unset-is : (l : Stored) → l ≡ unset → isUnset l ≡ true
 unfolding isUnset
 unset-is l e = ap isUnset e
 
-pub homeless-never {κ} : {C : Type κ} (s : State) → Shaped s → nonEmpty (s .batch) ≡ true → s .limits ≡ unset → C
+pub homeless-never {κ} : {C : Type κ} (s : State) → Shaped s → nonEmpty (s .batch) ≡ true → s .stored ≡ unset → C
 homeless-never s w b e =
     let r : s .running ≡ true = not-false (s .running) (and-other (nonEmpty (s .batch)) (not (s .running)) b (w .runs .opened)) in
-    not-both (unset-is (s .limits) e) (and-other (s .running) (isUnset (s .limits)) r (w .runs .stored))
+    not-both (unset-is (s .stored) e) (and-other (s .running) (isUnset (s .stored)) r (w .runs .stored))

@@ -152,14 +152,14 @@ module _ (s : State) (c : Counters) (w : Shaped s) where
     wired = w .wired;
     queued = queued-taken (s .edges) (suc h) (s .n) (s .next) (b - s .used) (upTo (s .n)) (s .pending) (w .queued);
     held = held-taken (s .edges) (suc h) (s .n) (b - s .used) (s .pending) (w .sized .few) (w .queued .short) (w .queued .known);
-    runs = runs-batch (s .limits) (s .batch) (takenAt s h b .events) (s .running) (i .open-run) (w .runs);
+    runs = runs-batch (s .stored) (s .batch) (takenAt s h b .events) (s .running) (i .open-run) (w .runs);
   }
 
   shape-closed : s .batch ≡ [] → Shaped (closed s)
-  shape-closed z = record { sized = w .sized; wired = w .wired; queued = w .queued; held = w .held; runs = runs-closed (s .limits) (s .batch) (s .running) z (w .runs) }
+  shape-closed z = record { sized = w .sized; wired = w .wired; queued = w .queued; held = w .held; runs = runs-closed (s .stored) (s .batch) (s .running) z (w .runs) }
 
   shape-poison : Shaped (poison s)
-  shape-poison = record { sized = w .sized; wired = w .wired; queued = w .queued; held = held-none (s .n); runs = runs-empty (s .limits) (s .running) (w .runs .below) (w .runs .stored) }
+  shape-poison = record { sized = w .sized; wired = w .wired; queued = w .queued; held = held-none (s .n); runs = runs-empty (s .stored) (s .running) (w .runs .below) (w .runs .stored) }
 
   shape-advanced : (h : ℕ) → Shaped (advanced s h)
   unfolding refreshed
@@ -186,7 +186,7 @@ module _ (s : State) (c : Counters) (w : Shaped s) where
     wired = w .wired;
     queued = rw (length-messages xs) at (queued-all (s .n) (s .next) (s .pending) (messages xs) (fits mask xs h b i) (omega (arith, few-enough mask xs h b i, length-messages xs)) (w .queued));
     held = held-none (s .n);
-    runs = runs-empty (s .limits) (s .running) (w .runs .below) (w .runs .stored);
+    runs = runs-empty (s .stored) (s .running) (w .runs .below) (w .runs .stored);
   }
 
 shape-refreshed : (s : State) (h : ℕ) → Shaped s → Shaped (refreshed s h (s .edges) (s .edges) (s .horizons))

@@ -114,17 +114,17 @@ module _ (s : State) (c : Counters) (a : foreign s ≡ false) (u : s .poisoned �
       by-test Calm (λ t. calm-answer _ _ _ refl) (λ t. by-test Calm (λ v. calm-answer _ _ _ refl) (λ v. by-test Calm (λ w. calm-answer _ _ _ refl) (λ w.
       by-test Calm (λ x. calm-answer _ _ _ refl) (λ x. not-both (never-stuck s h b (shaped s a) (record { steps = i; none-taken = t; not-spent = v }) w) x))))
 
-  calm-at : (l : Stored) → s .limits ≡ l → s .running ≡ true → s .batch ≡ [] → Calm (stepAt s c l)
+  calm-at : (l : Stored) → s .stored ≡ l → s .running ≡ true → s .batch ≡ [] → Calm (stepAt s c l)
   unfolding stepAt number refusalNumber
   calm-at unset e r z = calm-answer _ _ _ refl
-  calm-at (stored h b) e r z = calm-run h b (record { passes = a; healthy = u; open-run = r; empty = z; limits = e })
+  calm-at (stored h b) e r z = calm-run h b (record { passes = a; healthy = u; open-run = r; empty = z; stored = e })
 
   calm-step : Calm (step s c)
   unfolding step number refusalNumber
   calm-step =
       by-firsts Calm (stepRows s) _ _
       ((λ _. calm-answer _ _ _ refl), λ _. ((λ e. not-both e u), λ _. ((λ _. calm-answer _ _ _ refl), λ _. tt)))
-      (λ p. calm-at (s .limits) refl (not-false (s .running) (or-left (not (s .running)) (nonEmpty (s .batch)) (p .1 .1 .0))) (empty-nil (s .batch) (or-right (not (s .running)) (nonEmpty (s .batch)) (p .1 .1 .0))))
+      (λ p. calm-at (s .stored) refl (not-false (s .running) (or-left (not (s .running)) (nonEmpty (s .batch)) (p .1 .1 .0))) (empty-nil (s .batch) (or-right (not (s .running)) (nonEmpty (s .batch)) (p .1 .1 .0))))
 
 pub last-branch : (s : State) (c : Counters) → foreign s ≡ false → s .poisoned ≡ false → number (step s c .answer) ≡ 12 → ⊥
 unfolding Calm

@@ -18,7 +18,7 @@ beginRows s h =
     (foreign s ⇒ Answers.ForeignState)
     ∷ (s .poisoned ⇒ Answers.Poisoned)
     ∷ (s .running ⇒ Answers.RunOpen)
-    ∷ (ltb h (previous (s .limits)) ⇒ Answers.HorizonRegression (previous (s .limits)) h)
+    ∷ (ltb h (previous (s .stored)) ⇒ Answers.HorizonRegression (previous (s .stored)) h)
     ∷ (leb top h ⇒ Answers.HorizonOverflow h)
     ∷ []
 

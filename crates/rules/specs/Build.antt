@@ -81,7 +81,7 @@ edgesOf L (p ∷ sources) (k ∷ counts) ds =
 -- "Once built, nothing is pending, initial events are open, no horizon is stored, no run is open, and GVT, next sequence and every counter are 0";
 -- "local horizon h(p), at first 0".
 unfoldable pub built : Setup → State
-built a = record { n = a .n; lookahead = a .lookahead; edges = edgesOf (a .lookahead) (a .sources) (a .counts) (a .destinations); pending = []; next = 0; horizons = map (λ p. 0) (upTo (a .n)); gvt = 0; limits = unset; used = 0; batch = []; initial = true; running = false; poisoned = false }
+built a = record { n = a .n; lookahead = a .lookahead; edges = edgesOf (a .lookahead) (a .sources) (a .counts) (a .destinations); pending = []; next = 0; horizons = map (λ p. 0) (upTo (a .n)); gvt = 0; stored = unset; used = 0; batch = []; initial = true; running = false; poisoned = false }
 
 -- "nothing made"; "a refused build leaves the lent counters untouched".
 pub record Made : Type 0 where

@@ -55,9 +55,9 @@ clauses s =
     ∷ not (rising before (s .pending))
     -- "a pending sequence not below the next one"
     ∷ any (λ e. leb (s .next) (e .sequence)) (s .pending)
-    ∷ atTop (s .limits)
+    ∷ atTop (s .stored)
     -- "an open run without a stored horizon"
-    ∷ (s .running && isUnset (s .limits))
+    ∷ (s .running && isUnset (s .stored))
     -- "a batch without an open run"
     ∷ (nonEmpty (s .batch) && not (s .running))
     -- "or a batch not strictly rising by process"

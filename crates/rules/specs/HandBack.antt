@@ -120,4 +120,4 @@ abbrev pub lose : State → Counters → Refusal → Out
 lose s c r = out (Refused r) (poison s) c
 
 unfoldable pub handBack : State → Counters → ℕ → List Emission → Out
-handBack s c mask xs = unless (backRows s mask xs) (refuse s c) (unless (poisonRows s mask xs) (lose s c) (commitAt s c (s .limits) xs))
+handBack s c mask xs = unless (backRows s mask xs) (refuse s c) (unless (poisonRows s mask xs) (lose s c) (commitAt s c (s .stored) xs))

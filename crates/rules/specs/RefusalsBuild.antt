@@ -31,7 +31,7 @@ sixteen-each = setup 32 3 (upTo 32) (upTo 32) (times 32 16) (map (λ i. (i / 16 
 pub record RefusingBuild : Type 0 where
   -- What the rehearsals start from.
   pub accepted : (c : Counters) → build pair c ≡ record { answer = Accepted; made = some (built pair); counters = zeros }
-  pub made : built pair ≡ record { n = 2; lookahead = 3; edges = record { source = 0; destination = 1; bound = 3 } ∷ record { source = 1; destination = 0; bound = 3 } ∷ []; pending = []; next = 0; horizons = 0 ∷ 0 ∷ []; gvt = 0; limits = unset; used = 0; batch = []; initial = true; running = false; poisoned = false }
+  pub made : built pair ≡ record { n = 2; lookahead = 3; edges = record { source = 0; destination = 1; bound = 3 } ∷ record { source = 1; destination = 0; bound = 3 } ∷ []; pending = []; next = 0; horizons = 0 ∷ 0 ∷ []; gvt = 0; stored = unset; used = 0; batch = []; initial = true; running = false; poisoned = false }
   -- "process count 0 or above 64"
   pub r1-none : TurnsAway (setup 0 3 [] [] [] []) 1 (0 ∷ [])
   pub r1-many : TurnsAway (edgeless 65) 1 (65 ∷ [])

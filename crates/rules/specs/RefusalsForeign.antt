@@ -17,7 +17,7 @@ use Rattle.rules.specs.Samples.{edge, edges, zero-zero, fresh, manyEvent
 
 -- A state by what `foreign` looks at: n, L, edges, pending events, next sequence number, local horizons, stored horizon and budget, batch, run open.
 abbrev pub seen : ℕ → ℕ → List Edge → List Event → ℕ → List ℕ → Stored → List Event → Bool → State
-seen n L es q k hs l b run = record { n = n; lookahead = L; edges = es; pending = q; next = k; horizons = hs; gvt = 0; limits = l; used = 0; batch = b; initial = false; running = run; poisoned = false }
+seen n L es q k hs l b run = record { n = n; lookahead = L; edges = es; pending = q; next = k; horizons = hs; gvt = 0; stored = l; used = 0; batch = b; initial = false; running = run; poisoned = false }
 
 -- An event from 0 to b at tick t, with a payload of k bytes.
 abbrev pub loaded : ℕ → ℕ → ℕ → ℕ → Event
@@ -27,14 +27,14 @@ loaded b t i k = record { source = 0; destination = b; tick = t; sequence = i; p
 abbrev pub waiting : List Event
 waiting = event 0 0 7 1 ∷ event 0 1 3 2 ∷ []
 
-abbrev pub limits : Stored
-limits = stored 9 10
+abbrev pub run : Stored
+run = stored 9 10
 
 abbrev pub batch : List Event
 batch = event 0 1 2 0 ∷ []
 
 abbrev pub good : State
-good = seen 2 3 edges waiting 3 zero-zero limits batch true
+good = seen 2 3 edges waiting 3 zero-zero run batch true
 
 -- k edges among 64 processes, none twice.
 unfoldable pub manyEdges : ℕ → List Edge
@@ -48,61 +48,61 @@ manyInHand p (suc k) = event p p 0 p ∷ manyInHand (suc p) k
 
 -- L = 0.
 abbrev pub no-lookahead : State
-no-lookahead = seen 2 0 edges waiting 3 zero-zero limits batch true
+no-lookahead = seen 2 0 edges waiting 3 zero-zero run batch true
 
 -- One field of the good state is spoilt, in the order of document 01's sentence.
 abbrev pub spoilt : List State
 spoilt =
     -- "a process count outside 1 to 64"
-    seen 0 3 [] [] 3 [] limits [] true
-    ∷ seen 65 3 edges waiting 3 (times 65 0) limits batch true
+    seen 0 3 [] [] 3 [] run [] true
+    ∷ seen 65 3 edges waiting 3 (times 65 0) run batch true
     -- "L = 0"
     ∷ no-lookahead
     -- "a count or length over its limit": edges, pending events, batch, payloads. A batch of 65 has a strange id or one twice besides.
-    ∷ seen 64 3 (manyEdges 513) waiting 3 (times 64 0) limits batch true
-    ∷ seen 2 3 edges (manyEvents 513) 513 zero-zero limits batch true
-    ∷ seen 64 3 edges waiting 3 (times 64 0) limits (manyInHand 0 65) true
-    ∷ seen 2 3 edges (event 0 0 7 1 ∷ loaded 1 3 2 17 ∷ []) 3 zero-zero limits batch true
-    ∷ seen 2 3 edges waiting 3 zero-zero limits (loaded 1 2 0 17 ∷ []) true
+    ∷ seen 64 3 (manyEdges 513) waiting 3 (times 64 0) run batch true
+    ∷ seen 2 3 edges (manyEvents 513) 513 zero-zero run batch true
+    ∷ seen 64 3 edges waiting 3 (times 64 0) run (manyInHand 0 65) true
+    ∷ seen 2 3 edges (event 0 0 7 1 ∷ loaded 1 3 2 17 ∷ []) 3 zero-zero run batch true
+    ∷ seen 2 3 edges waiting 3 zero-zero run (loaded 1 2 0 17 ∷ []) true
     -- "an id not below n": of an edge, of a pending event, of one in hand; its source, its destination.
-    ∷ seen 2 3 (edge 0 1 ∷ edge 2 0 ∷ []) waiting 3 zero-zero limits batch true
-    ∷ seen 2 3 (edge 0 1 ∷ edge 1 2 ∷ []) waiting 3 zero-zero limits batch true
-    ∷ seen 2 3 edges (event 2 0 7 1 ∷ event 0 1 3 2 ∷ []) 3 zero-zero limits batch true
-    ∷ seen 2 3 edges (event 0 0 7 1 ∷ event 0 2 3 2 ∷ []) 3 zero-zero limits batch true
-    ∷ seen 2 3 edges waiting 3 zero-zero limits (event 2 1 2 0 ∷ []) true
-    ∷ seen 2 3 edges waiting 3 zero-zero limits (event 0 2 2 0 ∷ []) true
+    ∷ seen 2 3 (edge 0 1 ∷ edge 2 0 ∷ []) waiting 3 zero-zero run batch true
+    ∷ seen 2 3 (edge 0 1 ∷ edge 1 2 ∷ []) waiting 3 zero-zero run batch true
+    ∷ seen 2 3 edges (event 2 0 7 1 ∷ event 0 1 3 2 ∷ []) 3 zero-zero run batch true
+    ∷ seen 2 3 edges (event 0 0 7 1 ∷ event 0 2 3 2 ∷ []) 3 zero-zero run batch true
+    ∷ seen 2 3 edges waiting 3 zero-zero run (event 2 1 2 0 ∷ []) true
+    ∷ seen 2 3 edges waiting 3 zero-zero run (event 0 2 2 0 ∷ []) true
     -- "an edge twice or to its own source"
-    ∷ seen 2 3 (edge 0 1 ∷ edge 1 0 ∷ edge 0 1 ∷ []) waiting 3 zero-zero limits batch true
-    ∷ seen 2 3 (edge 0 1 ∷ edge 1 1 ∷ []) waiting 3 zero-zero limits batch true
+    ∷ seen 2 3 (edge 0 1 ∷ edge 1 0 ∷ edge 0 1 ∷ []) waiting 3 zero-zero run batch true
+    ∷ seen 2 3 (edge 0 1 ∷ edge 1 1 ∷ []) waiting 3 zero-zero run batch true
     -- "pending events not strictly rising by (destination, tick, source, sequence)": each of the four falls; one event twice.
-    ∷ seen 2 3 edges (event 0 1 3 2 ∷ event 0 0 7 1 ∷ []) 3 zero-zero limits batch true
-    ∷ seen 2 3 edges (event 0 1 4 1 ∷ event 0 1 3 2 ∷ []) 3 zero-zero limits batch true
-    ∷ seen 2 3 edges (event 1 1 3 1 ∷ event 0 1 3 2 ∷ []) 3 zero-zero limits batch true
-    ∷ seen 2 3 edges (event 0 1 3 2 ∷ event 0 1 3 1 ∷ []) 3 zero-zero limits batch true
-    ∷ seen 2 3 edges (event 0 1 3 2 ∷ event 0 1 3 2 ∷ []) 3 zero-zero limits batch true
+    ∷ seen 2 3 edges (event 0 1 3 2 ∷ event 0 0 7 1 ∷ []) 3 zero-zero run batch true
+    ∷ seen 2 3 edges (event 0 1 4 1 ∷ event 0 1 3 2 ∷ []) 3 zero-zero run batch true
+    ∷ seen 2 3 edges (event 1 1 3 1 ∷ event 0 1 3 2 ∷ []) 3 zero-zero run batch true
+    ∷ seen 2 3 edges (event 0 1 3 2 ∷ event 0 1 3 1 ∷ []) 3 zero-zero run batch true
+    ∷ seen 2 3 edges (event 0 1 3 2 ∷ event 0 1 3 2 ∷ []) 3 zero-zero run batch true
     -- "a pending sequence not below the next one"
-    ∷ seen 2 3 edges waiting 2 zero-zero limits batch true
+    ∷ seen 2 3 edges waiting 2 zero-zero run batch true
     -- "a stored horizon of 2^128 - 1"
     ∷ seen 2 3 edges waiting 3 zero-zero (stored (2 ^ 128 - 1) 10) batch true
     -- "an open run without a stored horizon"
     ∷ seen 2 3 edges waiting 3 zero-zero unset batch true
     -- "a batch without an open run"
-    ∷ seen 2 3 edges waiting 3 zero-zero limits batch false
+    ∷ seen 2 3 edges waiting 3 zero-zero run batch false
     -- "or a batch not strictly rising by process": it falls; a process twice.
-    ∷ seen 2 3 edges waiting 3 zero-zero limits (event 0 1 2 0 ∷ event 0 0 2 0 ∷ []) true
-    ∷ seen 2 3 edges waiting 3 zero-zero limits (event 0 1 1 0 ∷ event 0 1 2 0 ∷ []) true
+    ∷ seen 2 3 edges waiting 3 zero-zero run (event 0 1 2 0 ∷ event 0 0 2 0 ∷ []) true
+    ∷ seen 2 3 edges waiting 3 zero-zero run (event 0 1 1 0 ∷ event 0 1 2 0 ∷ []) true
     -- One local horizon for each process: one is lacking, one is too many.
-    ∷ seen 2 3 edges waiting 3 (0 ∷ []) limits batch true
-    ∷ seen 2 3 edges waiting 3 (0 ∷ 0 ∷ 0 ∷ []) limits batch true
+    ∷ seen 2 3 edges waiting 3 (0 ∷ []) run batch true
+    ∷ seen 2 3 edges waiting 3 (0 ∷ 0 ∷ 0 ∷ []) run batch true
     ∷ []
 
 -- The good state; 1 process, 64 processes, 512 edges, 512 pending events, a batch of 64, payloads of 16, a horizon of 2^128 - 2.
 abbrev pub at-limits : List State
 at-limits =
     good
-    ∷ seen 1 3 [] [] 3 (0 ∷ []) limits [] true
+    ∷ seen 1 3 [] [] 3 (0 ∷ []) run [] true
     ∷ seen 64 3 (manyEdges 512) (manyEvents 512) 512 (times 64 0) (stored (2 ^ 128 - 2) 10) (manyInHand 0 64) true
-    ∷ seen 2 3 edges (event 0 0 7 1 ∷ loaded 1 3 2 16 ∷ []) 3 zero-zero limits (loaded 1 2 0 16 ∷ []) true
+    ∷ seen 2 3 edges (event 0 0 7 1 ∷ loaded 1 3 2 16 ∷ []) 3 zero-zero run (loaded 1 2 0 16 ∷ []) true
     ∷ []
 
 pub record RefusingForeign : Type 0 where

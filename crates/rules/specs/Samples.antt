@@ -22,7 +22,7 @@ zero-zero = 0 ∷ 0 ∷ []
 
 -- Just built, with these edges.
 abbrev pub fresh-with : List Edge → State
-fresh-with es = record { n = 2; lookahead = 3; edges = es; pending = []; next = 0; horizons = zero-zero; gvt = 0; limits = unset; used = 0; batch = []; initial = true; running = false; poisoned = false }
+fresh-with es = record { n = 2; lookahead = 3; edges = es; pending = []; next = 0; horizons = zero-zero; gvt = 0; stored = unset; used = 0; batch = []; initial = true; running = false; poisoned = false }
 
 abbrev pub fresh : State
 fresh = fresh-with edges
@@ -36,11 +36,11 @@ begun = withRun fresh 9 budget
 
 -- C1 at its end.
 abbrev pub finished : State
-finished = record { n = 2; lookahead = 3; edges = record { source = 0; destination = 1; bound = 10 } ∷ record { source = 1; destination = 0; bound = 10 } ∷ []; pending = []; next = 0; horizons = 10 ∷ 10 ∷ []; gvt = 9; limits = stored 9 budget; used = 0; batch = []; initial = false; running = false; poisoned = false }
+finished = record { n = 2; lookahead = 3; edges = record { source = 0; destination = 1; bound = 10 } ∷ record { source = 1; destination = 0; bound = 10 } ∷ []; pending = []; next = 0; horizons = 10 ∷ 10 ∷ []; gvt = 9; stored = stored 9 budget; used = 0; batch = []; initial = false; running = false; poisoned = false }
 
 -- In a run: with these edges, q pending, the next sequence number k, the horizon h and the budget u, the batch b in hand.
 abbrev pub in-run : List Edge → List Event → ℕ → ℕ → ℕ → List Event → State
-in-run es q k h u b = record { n = 2; lookahead = 3; edges = es; pending = q; next = k; horizons = zero-zero; gvt = 0; limits = stored h u; used = 0; batch = b; initial = false; running = true; poisoned = false }
+in-run es q k h u b = record { n = 2; lookahead = 3; edges = es; pending = q; next = k; horizons = zero-zero; gvt = 0; stored = stored h u; used = 0; batch = b; initial = false; running = true; poisoned = false }
 
 -- C4 before its step: an event at 2, budget 0.
 abbrev pub unpaid : State
@@ -51,7 +51,7 @@ abbrev pub in-hand : State
 in-hand = in-run edges [] 1 9 budget (event 0 1 2 0 ∷ [])
 
 abbrev pub lost : State
-lost = record { n = 2; lookahead = 3; edges = edges; pending = []; next = 1; horizons = zero-zero; gvt = 0; limits = stored 9 budget; used = 0; batch = []; initial = false; running = true; poisoned = true }
+lost = record { n = 2; lookahead = 3; edges = edges; pending = []; next = 1; horizons = zero-zero; gvt = 0; stored = stored 9 budget; used = 0; batch = []; initial = false; running = true; poisoned = true }
 
 -- That batch with budget 1, and a second event at 2 still pending.
 abbrev pub last-in-hand : State

@@ -114,4 +114,4 @@ stepRows s =
     ∷ []
 
 unfoldable pub step : State → Counters → Out
-step s c = unless (stepRows s) (refuse s c) (stepAt s c (s .limits))
+step s c = unless (stepRows s) (refuse s c) (stepAt s c (s .stored))
