@@ -2,20 +2,20 @@
 use mathlib.Core.Path.{_≡_, refl, sym, ap, _∙_}
 use mathlib.Core.Bool.{Bool, true, false, not, _&&_, _||_}
 use mathlib.Core.List.{List, [], _∷_, _++_, map}
-use Prim.Native.Nat.{ℕ, zero, suc, _+_, _-_, _≤_, _<_}
+use Prim.Native.Nat.{ℕ, zero, suc, _+_, _-_, _<_}
 use native.Mathlib.Omega.{arith}
-use lib.Dec.{leb, ltb, eqb}
+use lib.Dec.{ltb, eqb}
 use lib.ListN.{length, getD, take, drop, length-append, length-take, length-drop}
 use borrow.Author.Tests.{leb-false, ltb-true, ltb-false, eqb-true, eqb-false, ne-eqb}
-use Rattle.rules.specs.Base.{if_then_else_, Maybe, none, some, upFrom, upTo, any, anyOf, member, nonEmpty, sum, rising}
-use Rattle.rules.specs.State.{Edge, Counters, State, zeros}
+use Rattle.rules.specs.Base.{none, some, upFrom, upTo, any, anyOf, member, nonEmpty, sum, rising}
+use Rattle.rules.specs.State.{Edge, Counters, zeros}
 use Rattle.rules.specs.Answers.{Refusal, Accepted, Refused}
-use Rattle.rules.specs.Rows.{Row, unless}
+use Rattle.rules.specs.Rows.{Row}
 use Rattle.rules.specs.Pending.{joins}
 use Rattle.rules.specs.Foreign.{badEdges, atTop, isUnset}
 use Rattle.rules.specs.Build.{Setup, malformedRows, destinationRows, topologyRows, buildRows, edgesOf, built, build, Made}
-use Rattle.rules.proofs.Tests.{or-left, or-right, or-both, and-off, not-false, not-both}
-use Rattle.rules.proofs.Lists.{All, all-map, all-both, all-append, all-front, all-rest, all-mapped, all-of, any-none, none-any}
+use Rattle.rules.proofs.Tests.{or-left, or-right, or-both, and-off, not-false}
+use Rattle.rules.proofs.Lists.{All, all-map, all-append, all-front, all-rest, all-mapped, all-of, any-none, none-any}
 use Rattle.rules.proofs.Table.{Passed, by-firsts, firsts-all}
 use Rattle.rules.proofs.Shape.{Joined, Shaped}
 use Rattle.rules.proofs.Order.{Pairs, rising-pairs}

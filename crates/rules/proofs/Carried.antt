@@ -1,10 +1,9 @@
 -- The history of a list of calls is made of what carrying the list out gives, call by call.
 use mathlib.Core.Path.{_≡_, refl}
 use mathlib.Core.List.{List, [], _∷_}
-use Rattle.rules.specs.State.{State, Counters}
 use Rattle.rules.specs.Rows.{Out}
 use Rattle.rules.specs.Calls.{Call, rule, carryOut}
-use Rattle.rules.specs.History.{Entry, History, entry, onward, tell}
+use Rattle.rules.specs.History.{History, onward, tell}
 
 -- The history y, with the calls and what each gave.
 unfoldable pub logged : History → List Call → List Out → History

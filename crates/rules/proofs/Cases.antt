@@ -1,27 +1,26 @@
 -- What a call can do, once for all invariants: P of each outcome gives P of the call.
 use mathlib.Core.Path.{_≡_, refl}
-use mathlib.Core.Bool.{Bool, true, false, not, _&&_, _||_}
-use mathlib.Core.List.{List, [], _∷_, _++_}
+use mathlib.Core.Bool.{true, false, not}
+use mathlib.Core.List.{List, [], _∷_}
 use Prim.Native.Nat.{ℕ, suc, _+_, _≤_, _<_}
-use native.Mathlib.Omega.{arith}
-use lib.Dec.{leb, ltb, eqb}
+use lib.Dec.{eqb}
 use lib.ListN.{length}
 use borrow.Author.Tests.{leb-false, ltb-false}
-use Rattle.rules.specs.Base.{if_then_else_, nonEmpty}
+use Rattle.rules.specs.Base.{nonEmpty}
 use Rattle.rules.specs.State.{Event, Message, Stored, unset, stored, State, Counters, numbered, withPending, withRun, withBatch, closed, poison, top, most}
 use Rattle.rules.specs.Answers
 use Rattle.rules.specs.Answers.{Refusal, refusalNumber, Accepted, Batch, Advanced, Finished, Committed, Refused}
 use Rattle.rules.specs.Rows.{Row, unless, Out, out, refuse}
-use Rattle.rules.specs.Pending.{insert, route}
-use Rattle.rules.specs.Foreign.{foreign, isUnset}
+use Rattle.rules.specs.Pending.{insert}
+use Rattle.rules.specs.Foreign.{foreign}
 use Rattle.rules.specs.Initial.{initialRows, addInitial}
 use Rattle.rules.specs.Begin.{previous, beginRows, begin}
 use Rattle.rules.specs.Refresh.{refreshed}
 use Rattle.rules.specs.Step.{takenAt, spent, rose, nullsOf, advanced, countAdvance, complete, advance, stepRun, stepAt, stepRows, step}
 use Rattle.rules.specs.HandBack.{Emission, malformed, emissionRows, processRows, poisonRows, backRows, handled, countRound, commit, commitAt, lose, handBack}
-use Rattle.rules.proofs.Tests.{by-test, or-left, or-right, not-true, not-false, not-both}
+use Rattle.rules.proofs.Tests.{by-test, or-left, or-right, not-true, not-false}
 use Rattle.rules.proofs.Lists.{All, all-append, empty-nil}
-use Rattle.rules.proofs.Table.{Passed, Firsts, by-firsts, firsts-all}
+use Rattle.rules.proofs.Table.{Passed, by-firsts, firsts-all}
 
 -- A refusal that is neither 11 nor 33, and one that is none of 11, 24 and 26 (how hand back's are told apart).
 pub record Plain (r : Refusal) : Type 0 where

@@ -1,20 +1,19 @@
 -- What the checks of a hand back tell of each emission that passed them.
-use mathlib.Core.Path.{_≡_, refl, sym, _∙_}
-use mathlib.Core.Bool.{Bool, true, false, not, _&&_, _||_, true≢false}
+use mathlib.Core.Path.{_≡_, refl, sym}
+use mathlib.Core.Bool.{Bool, true, false, not, _&&_}
 use mathlib.Core.List.{List, [], _∷_, _++_}
 use Prim.Native.Nat.{ℕ, _+_, _≤_, _<_}
-use lib.Dec.{leb, ltb, eqb}
+use lib.Dec.{ltb, eqb}
 use lib.ListN.{length, getD}
-use borrow.Author.Tests.{leb-false, ltb-false, eqb-true, eqb-false, eq-eqb}
+use borrow.Author.Tests.{leb-false, ltb-false, eqb-true, eqb-false}
 use Rattle.rules.specs.Base.{if_then_else_, any, anyOf, upTo}
-use Rattle.rules.specs.State.{Event, Message, State, top, most}
+use Rattle.rules.specs.State.{Event, Message, State}
 use Rattle.rules.specs.Rows.{Row}
 use Rattle.rules.specs.Pending.{route}
-use Rattle.rules.specs.HandBack.{Emission, failed, fall, inBatch, malformed, minimum, messageRows, stragglerRow, emissionRows, processRows, poisonRows}
-use Rattle.rules.proofs.Tests.{by-test, by-bool, not-false}
+use Rattle.rules.specs.HandBack.{Emission, failed, fall, inBatch, malformed, minimum, messageRows, stragglerRow, emissionRows, processRows}
+use Rattle.rules.proofs.Tests.{not-false}
 use Rattle.rules.proofs.Lists.{All, all-map, all-both, all-front, all-rest, all-swap, any-none, any-some}
 use Rattle.rules.proofs.Table.{Passed}
-use Rattle.rules.proofs.Cases.{Replies}
 
 -- 28 to 32.
 pub record Routed (s : State) (p t : ℕ) (m : Message) : Type 0 where

@@ -1,19 +1,18 @@
 -- How the counts on a list of calls and answers change with one more call.
 use mathlib.Core.Path.{_≡_, refl}
-use mathlib.Core.Bool.{Bool, true, false, not, _&&_, _||_}
+use mathlib.Core.Bool.{Bool, true, false, not, _&&_}
 use mathlib.Core.List.{List, [], _∷_}
-use Prim.Native.Nat.{ℕ, suc, _+_, max}
+use Prim.Native.Nat.{ℕ, _+_, max}
 use native.Mathlib.Omega.{arith}
 use lib.Dec.{eqb}
 use lib.ListN.{length}
 use Rattle.rules.specs.Base.{if_then_else_, count}
-use Rattle.rules.specs.State.{Event, Message}
+use Rattle.rules.specs.State.{Event}
 use Rattle.rules.specs.Answers
-use Rattle.rules.specs.Answers.{Answer, Accepted, Batch, Advanced, Finished, Committed, Refused, Refusal, refusalNumber, number}
+use Rattle.rules.specs.Answers.{Answer, Batch, number}
 use Rattle.rules.specs.HandBack.{Emission, isRemote}
-use Rattle.rules.specs.Calls.{Call, AddInitial, Begin, Step, HandBack}
-use Rattle.rules.specs.History.{Entry, isInitial, isBegin, isHandBack, horizon, emissions, refused, isAdvanced, isBatch, events, R, initials, H, begins, adds, inHand, commits, handled, emitted, remote, rounds, nulls, workers, used}
-use Rattle.rules.proofs.Cases.{Losing}
+use Rattle.rules.specs.Calls.{Call}
+use Rattle.rules.specs.History.{Entry, isHandBack, emissions, isAdvanced, isBatch, events, initials, begins, adds, inHand, commits, handled, emitted, remote, rounds, nulls, workers, used}
 
 -- A test that fails or holds of one more.
 pub counts-off : {A : Type 0} (f : A → Bool) (x : A) (xs : List A) → f x ≡ false → count f (x ∷ xs) ≡ count f xs

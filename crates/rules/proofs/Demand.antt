@@ -1,35 +1,33 @@
 -- Demand 3 of the rules: for every list of calls, from every build that is not refused.
 use mathlib.Core.Path.{_≡_, refl, sym, ap, _∙_}
-use mathlib.Core.Bool.{Bool, true, false, true≢false}
-use mathlib.Core.List.{List, [], _∷_, map}
-use Prim.Native.Nat.{ℕ, zero, suc, _+_, _*_, _/_, _≤_, min}
+use mathlib.Core.Bool.{true, false, true≢false}
+use mathlib.Core.List.{List, [], _∷_}
+use Prim.Native.Nat.{ℕ, suc}
 use native.Mathlib.Omega.{arith}
-use lib.ListN.{length, getD}
+use lib.ListN.{length}
 use Rattle.rules.specs.Base.{if_then_else_, upTo, count}
-use Rattle.rules.specs.State.{Edge, State, Counters, most, withPending, withRun, withBatch, closed, poison}
+use Rattle.rules.specs.State.{Edge, State, Counters}
 use Rattle.rules.specs.Answers.{Reading, Pending, Counted, Read, Accepted}
 use Rattle.rules.specs.Rows.{unless, Out}
 use Rattle.rules.specs.Build.{Setup, built, build}
 use Rattle.rules.specs.Foreign.{foreign}
 use Rattle.rules.specs.Refresh.{refreshed}
-use Rattle.rules.specs.Step.{advanced}
 use Rattle.rules.specs.HandBack.{handled}
 use Rattle.rules.specs.Reads.{read, readCounters, readPending}
 use Rattle.rules.specs.Calls.{Call, AddInitial, Begin, Step, HandBack, rule}
 use Rattle.rules.specs.History
-use Rattle.rules.specs.History.{History, fresh, onward, tell, L, E, R, H, initials, inHand, emitted, remote, rounds, nulls, workers, used}
+use Rattle.rules.specs.History.{History, fresh, onward, tell, L, E, initials, inHand, emitted, remote, rounds, nulls, workers, used}
 use Rattle.rules.specs.Demand.{Never, Demanded}
 use Rattle.rules.proofs.Lists.{All, all-map}
-use Rattle.rules.proofs.Cases.{InitialCases, by-initial, BeginCases, by-begin, StepCases, by-step, BackCases, by-back}
+use Rattle.rules.proofs.Cases.{by-initial, by-begin, by-step, by-back}
 use Rattle.rules.proofs.Shape.{Shaped, passes-11}
 use Rattle.rules.proofs.ShapeCalls.{Shapes, shape-kept}
-use Rattle.rules.proofs.Tally.{Kept, Tallied, Tells}
+use Rattle.rules.proofs.Tally.{Tallied, Tells}
 use Rattle.rules.proofs.TallyCalls.{tells}
 use Rattle.rules.proofs.Fronts.{length-edges}
 use Rattle.rules.proofs.Pace.{Paced, paced-built, few-nulls, few-rounds}
 use Rattle.rules.proofs.PaceCalls.{pace-kept}
 use Rattle.rules.proofs.Fair.{Reach, Capped}
-use Rattle.rules.proofs.FairMoves.{Fair}
 use Rattle.rules.proofs.FairCalls.{FairIn, fair-kept}
 use Rattle.rules.proofs.Handed.{given}
 use Rattle.rules.proofs.Numbers.{Not, proper}

@@ -1,7 +1,7 @@
 -- The emission lemma: a message that passed 28 to 32 is in time, without check 33.
-use mathlib.Core.Path.{_≡_, refl, sym, ap, _∙_}
-use mathlib.Core.Bool.{Bool, true, false, _||_}
-use mathlib.Core.List.{List, [], _∷_}
+use mathlib.Core.Path.{_≡_, sym, ap, _∙_}
+use mathlib.Core.Bool.{true, false}
+use mathlib.Core.List.{List}
 use Prim.Native.Nat.{ℕ, _+_, _≤_, _<_}
 use native.Mathlib.Omega.{arith}
 use lib.Dec.{eqb}
@@ -14,7 +14,7 @@ use Rattle.rules.specs.HandBack.{minimum}
 use Rattle.rules.proofs.Tests.{by-bool, or-else, and-left, and-right}
 use Rattle.rules.proofs.Lists.{All, all-map, all-both, any-some}
 use Rattle.rules.proofs.Checks.{Routed}
-use Rattle.rules.proofs.Fair.{Reach, Capped, Under, Le, Last, InHand, Fine}
+use Rattle.rules.proofs.Fair.{Reach, Capped, Under, Le, InHand, Fine}
 
 to-itself : (L p t : ℕ) (m : Message) → eqb (m .destination) p ≡ true → minimum L p t m ≡ t
 unfolding minimum if_then_else_

@@ -6,11 +6,10 @@ use native.Mathlib.Omega.{arith}
 use native.Mathlib.Nat.{add-zero, add-suc, suc-add, zero-add}
 use lib.ListN.{length, getD}
 use borrow.Author.Tests.{eqb-false}
-use Rattle.rules.specs.Base.{if_then_else_}
 use Rattle.rules.specs.State.{Event, Message, Edge, State, top}
 use Rattle.rules.specs.Frontiers.{safe}
 use Rattle.rules.specs.Refresh.{raised}
-use Rattle.rules.specs.Step.{aim, boundTo, raisedEdges}
+use Rattle.rules.specs.Step.{aim, raisedEdges}
 use Rattle.rules.proofs.Tests.{by-test}
 use Rattle.rules.proofs.Lists.{All, all-map, all-both}
 use Rattle.rules.proofs.Shape.{Joined}

@@ -1,24 +1,24 @@
 -- Every call keeps the invariant behind order.
-use mathlib.Core.Path.{_≡_, refl, sym, ap, subst, _∙_}
-use mathlib.Core.Bool.{Bool, true, false, true≢false}
-use mathlib.Core.List.{List, [], _∷_}
-use Prim.Native.Nat.{ℕ, suc, _-_, _≤_, _<_, min}
+use mathlib.Core.Path.{_≡_, refl, sym, subst}
+use mathlib.Core.Bool.{true, false, true≢false}
+use mathlib.Core.List.{List, []}
+use Prim.Native.Nat.{ℕ, suc, _-_}
 use native.Mathlib.Omega.{arith}
-use Rattle.rules.specs.Base.{upTo, upFrom, nonEmpty, rising}
-use Rattle.rules.specs.State.{Event, Message, Edge, Stored, stored, State, Counters, numbered, withPending, withRun, withBatch, closed, poison, top}
+use Rattle.rules.specs.Base.{upTo}
+use Rattle.rules.specs.State.{Event, Message, stored, State, Counters, numbered, withPending, withRun, withBatch, closed, poison}
 use Rattle.rules.specs.Answers
 use Rattle.rules.specs.Answers.{Answer, Accepted, Batch, Advanced, Finished, Committed, Refused, Refusal}
 use Rattle.rules.specs.Rows.{Row, Out, out}
-use Rattle.rules.specs.Pending.{before, insert, firstTick, queue}
+use Rattle.rules.specs.Pending.{insert}
 use Rattle.rules.specs.Frontiers.{safe}
-use Rattle.rules.specs.Refresh.{raised, refreshTo, refreshed}
-use Rattle.rules.specs.Step.{takenAt, aim, newEdges, newHorizons, advanced}
+use Rattle.rules.specs.Refresh.{refreshTo, refreshed}
+use Rattle.rules.specs.Step.{takenAt, aim, newHorizons, advanced}
 use Rattle.rules.specs.HandBack.{Emission, processRows, messages, handled}
 use Rattle.rules.specs.Calls.{Call, AddInitial, Begin, Step, HandBack, rule}
-use Rattle.rules.specs.History.{Entry, History, onward, events}
-use Rattle.rules.proofs.Tests.{by-bool, not-both}
-use Rattle.rules.proofs.Lists.{All, all-front}
-use Rattle.rules.proofs.Cases.{InitialPassed, InitialCases, by-initial, BeginCases, by-begin, Steps, Advances, StepCases, by-step, Replies, Commits, BackCases, by-back}
+use Rattle.rules.specs.History.{History, onward, events}
+use Rattle.rules.proofs.Tests.{not-both}
+use Rattle.rules.proofs.Lists.{all-front}
+use Rattle.rules.proofs.Cases.{by-initial, by-begin, Steps, StepCases, by-step, Commits, BackCases, by-back}
 use Rattle.rules.proofs.Shape.{Shaped, passes-11, homeless-never}
 use Rattle.rules.proofs.ShapeCalls.{batch-runs, shape-handled}
 use Rattle.rules.proofs.Handed.{given}

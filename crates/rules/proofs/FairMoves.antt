@@ -1,31 +1,30 @@
 -- How the invariant behind order is kept by what calls do: an insertion, a batch, fronts that rise, emissions that are queued.
-use mathlib.Core.Path.{_≡_, refl, sym, ap, subst, _∙_}
-use mathlib.Core.Bool.{Bool, true, false, not, true≢false}
-use mathlib.Core.List.{List, [], _∷_, map}
-use Prim.Native.Nat.{ℕ, zero, suc, _+_, _-_, _≤_, _<_, min}
+use mathlib.Core.Path.{_≡_, sym, ap, subst, _∙_}
+use mathlib.Core.Bool.{Bool, true, false, true≢false}
+use mathlib.Core.List.{List, [], _∷_}
+use Prim.Native.Nat.{ℕ, suc, _-_, _≤_, _<_}
 use native.Mathlib.Omega.{arith}
-use lib.Dec.{leb}
-use lib.ListN.{length, getD}
+use lib.ListN.{getD}
 use borrow.Author.Tests.{leb-false}
-use Rattle.rules.specs.Base.{upTo, upFrom, nonEmpty, rising}
-use Rattle.rules.specs.State.{Event, Message, Edge, Stored, stored, State, Counters, numbered, withPending, withRun, withBatch, closed, poison, top}
+use Rattle.rules.specs.Base.{upFrom, rising}
+use Rattle.rules.specs.State.{Event, Message, Edge, Stored, stored, State, top}
 use Rattle.rules.specs.Pending.{before, insert, firstTick, queue}
 use Rattle.rules.specs.Frontiers.{safe}
 use Rattle.rules.specs.Foreign.{atTop}
-use Rattle.rules.specs.Refresh.{raised, refreshTo, refreshed}
-use Rattle.rules.specs.Step.{take, takenAt, aim, newEdges, newHorizons, advanced}
+use Rattle.rules.specs.Refresh.{raised}
+use Rattle.rules.specs.Step.{take, aim, newEdges}
 use Rattle.rules.specs.HandBack.{Emission, malformed, processRows, messages}
 use Rattle.rules.proofs.Tests.{not-both}
-use Rattle.rules.proofs.Lists.{All, all-map, all-both, all-front, all-mapped, empty-nil}
+use Rattle.rules.proofs.Lists.{All, all-map, all-both, all-mapped}
 use Rattle.rules.proofs.Table.{Passed}
-use Rattle.rules.proofs.Shape.{Shaped, passes-11, homeless-never}
+use Rattle.rules.proofs.Shape.{Shaped}
 use Rattle.rules.proofs.Order.{all-insert, sorted}
 use Rattle.rules.proofs.Take.{take-all, take-safe}
 use Rattle.rules.proofs.Checks.{Routed, each-emission}
 use Rattle.rules.proofs.Unstuck.{first-least}
-use Rattle.rules.proofs.Fair.{Floor, floor-raised, Reach, reach-more, reach-raised, Capped, capped-raised, capped-bounds, Under, safe-under, under-raised, Last, InHand, Fine}
+use Rattle.rules.proofs.Fair.{Floor, floor-raised, Reach, reach-more, reach-raised, Capped, capped-raised, capped-bounds, Under, safe-under, under-raised, Last, InHand}
 use Rattle.rules.proofs.Emit.{fine}
-use Rattle.rules.proofs.Handed.{handedOn, given, all-handed, Ordered, Above, take-good, take-last, Timely, queue-floor, queue-above}
+use Rattle.rules.proofs.Handed.{handedOn, all-handed, Ordered, Above, take-good, take-last, Timely, queue-floor, queue-above}
 
 -- Of the events handed out g, pending q and in hand bs, the edges es and the local horizons hs.
 pub record Fair (g q bs : List Event) (es : List Edge) (hs : List ℕ) (L : ℕ) (initial running : Bool) : Type 0 where

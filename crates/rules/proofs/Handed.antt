@@ -2,21 +2,20 @@
 use mathlib.Core.Path.{_≡_, refl, sym, subst, _∙_}
 use mathlib.Core.Bool.{Bool, true, false}
 use mathlib.Core.List.{List, [], _∷_}
-use Prim.Native.Nat.{ℕ, zero, suc, _+_, _≤_, _<_}
+use Prim.Native.Nat.{ℕ, zero, suc, _≤_, _<_}
 use native.Mathlib.Omega.{arith}
 use lib.Dec.{eqb}
 use lib.ListN.{getD}
-use borrow.Author.Tests.{eqb-true, eqb-false}
-use Rattle.rules.specs.Base.{if_then_else_, Maybe, none, some, upFrom}
+use borrow.Author.Tests.{eqb-false}
+use Rattle.rules.specs.Base.{if_then_else_, some, upFrom}
 use Rattle.rules.specs.State.{Event, Message, Edge, numbered}
 use Rattle.rules.specs.Pending.{insert, firstOf, withoutFirst, queue}
-use Rattle.rules.specs.Frontiers.{safe}
 use Rattle.rules.specs.Step.{Taken, take}
 use Rattle.rules.specs.History.{Entry, events}
 use Rattle.rules.proofs.Lists.{All, all-map}
 use Rattle.rules.proofs.Order.{Before, Sorted, all-insert, all-without, all-first, sorted-without, first-destination}
 use Rattle.rules.proofs.Take.{take-cases}
-use Rattle.rules.proofs.Fair.{Le, Last, Floor, Fine}
+use Rattle.rules.proofs.Fair.{Le, Last, Floor}
 
 -- The events es were handed out after those of g, which stand with the last first.
 abbrev pub handedOn : List Event → List Event → List Event

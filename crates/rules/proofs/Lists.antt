@@ -1,12 +1,12 @@
 -- What holds of every element of a list, and the tests `any`, `every` and `nonEmpty`.
-use mathlib.Core.Path.{_≡_, refl, sym, ap, _∙_}
-use mathlib.Core.Bool.{Bool, true, false, not, _&&_, _||_, true≢false}
+use mathlib.Core.Path.{_≡_, refl, sym}
+use mathlib.Core.Bool.{Bool, true, false, _||_, true≢false}
 use mathlib.Core.List.{List, [], _∷_, _++_, map}
-use Prim.Native.Nat.{ℕ, zero, suc, _+_, _≤_, _<_}
+use Prim.Native.Nat.{_+_, _<_}
 use native.Mathlib.Omega.{arith}
 use lib.ListN.{length}
-use Rattle.rules.specs.Base.{if_then_else_, upFrom, upTo, any, every, nonEmpty}
-use Rattle.rules.proofs.Tests.{or-left, or-right, or-both, and-left, and-right, and-both}
+use Rattle.rules.specs.Base.{any, every, nonEmpty}
+use Rattle.rules.proofs.Tests.{or-left, or-right, or-both, and-both}
 
 abbrev pub All : {A : Type 0} → (A → Type 0) → List A → Type 0
 All P [] = Unit {0}
@@ -66,11 +66,6 @@ module _ {A : Type 0} (f : A → Bool) where
   none-any [] i = refl
   none-any (x ∷ xs) i = or-both (f x) (any f xs) (i .0) (none-any xs (i .1))
 
-  pub every-all : (xs : List A) → every f xs ≡ true → All (λ x. f x ≡ true) xs
-  unfolding every
-  every-all [] h = tt
-  every-all (x ∷ xs) h = (and-left (f x) (every f xs) h, every-all xs (and-right (f x) (every f xs) h))
-
   pub all-every : (xs : List A) → All (λ x. f x ≡ true) xs → every f xs ≡ true
   unfolding every
   all-every [] i = refl
@@ -95,9 +90,3 @@ pub some-long : {A : Type 0} (xs : List A) → nonEmpty xs ≡ true → 0 < leng
 unfolding nonEmpty
 some-long [] h = absurd (true≢false (sym h))
 some-long (x ∷ xs) h = omega arith
-
--- What holds of every number from i on holds of each.
-pub all-upFrom : (P : ℕ → Type 0) (i n : ℕ) → ((p : ℕ) → i ≤ p → p < i + n → P p) → All P (upFrom i n)
-unfolding upFrom
-all-upFrom P i zero f = tt
-all-upFrom P i (suc n) f = (f i (omega arith) (omega arith), all-upFrom P (suc i) n (λ p a b. f p (omega arith) (omega arith)))

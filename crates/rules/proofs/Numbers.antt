@@ -1,28 +1,27 @@
 -- No call on a state reached from build answers 11 or 33.
-use mathlib.Core.Path.{_≡_, refl, sym, subst, _∙_}
-use mathlib.Core.Bool.{Bool, true, false, not}
-use mathlib.Core.List.{List, [], _∷_, _++_}
-use Prim.Native.Nat.{ℕ, suc, _<_}
+use mathlib.Core.Path.{_≡_, refl, subst}
+use mathlib.Core.Bool.{true, false}
+use mathlib.Core.List.{List, [], _∷_}
+use Prim.Native.Nat.{ℕ, _<_}
 use native.Mathlib.Omega.{arith}
 use lib.Dec.{ltb, eqb}
 use lib.ListN.{getD}
 use borrow.Author.Tests.{eqb-true, eqb-false, ltb-true}
-use Rattle.rules.specs.Base.{if_then_else_}
 use Rattle.rules.specs.State.{Event, Message, Stored, unset, stored, State, Counters}
 use Rattle.rules.specs.Answers
-use Rattle.rules.specs.Answers.{Answer, Refusal, refusalNumber, number, Refused}
-use Rattle.rules.specs.Rows.{Row, unless, Out, out, refuse}
+use Rattle.rules.specs.Answers.{Refusal, refusalNumber, number}
+use Rattle.rules.specs.Rows.{Row, Out, refuse}
 use Rattle.rules.specs.Pending.{route}
 use Rattle.rules.specs.Foreign.{foreign}
 use Rattle.rules.specs.Initial.{addInitial}
 use Rattle.rules.specs.Begin.{begin}
 use Rattle.rules.specs.Step.{step}
-use Rattle.rules.specs.HandBack.{Emission, messageRows, stragglerRow, emissionRows, processRows, poisonRows, backRows, commit, commitAt, lose, handBack}
+use Rattle.rules.specs.HandBack.{Emission, messageRows, emissionRows, processRows, poisonRows, backRows, commit, commitAt, lose, handBack}
 use Rattle.rules.specs.Calls.{Call, AddInitial, Begin, Step, HandBack, rule}
 use Rattle.rules.proofs.Tests.{by-test, not-both}
 use Rattle.rules.proofs.Lists.{All}
 use Rattle.rules.proofs.Table.{Passed, Firsts, by-firsts, firsts-append}
-use Rattle.rules.proofs.Cases.{Plain, Losing, InitialCases, by-initial, BeginCases, by-begin, StepCases, by-step, BackCases, by-back}
+use Rattle.rules.proofs.Cases.{Plain, by-initial, by-begin, by-step, by-back}
 use Rattle.rules.proofs.Shape.{Shaped, passes-11}
 use Rattle.rules.proofs.Checks.{Routed, routed}
 use Rattle.rules.proofs.Fair.{InHand}

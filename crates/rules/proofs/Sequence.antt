@@ -1,16 +1,14 @@
 -- From the list of all events handed out, the last first, to what each process was handed, in order.
-use mathlib.Core.Path.{_≡_, refl, sym, ap, subst, _∙_}
+use mathlib.Core.Path.{_≡_, refl, sym, ap, _∙_}
 use mathlib.Core.Bool.{Bool, true, false}
 use mathlib.Core.List.{List, [], _∷_, _++_, map, append-assoc}
 use Prim.Native.Nat.{ℕ, _≤_}
-use native.Mathlib.Omega.{arith}
 use lib.Dec.{eqb}
 use borrow.Author.Tests.{eqb-true}
 use Rattle.rules.specs.Base.{if_then_else_}
 use Rattle.rules.specs.State.{Event}
 use Rattle.rules.specs.History.{Entry, events, eventsAt, handedTo}
 use Rattle.rules.specs.Demand.{Nondecreasing}
-use Rattle.rules.proofs.Tests.{by-test}
 use Rattle.rules.proofs.Lists.{All, all-map}
 use Rattle.rules.proofs.Fair.{Le}
 use Rattle.rules.proofs.Handed.{handedOn, given, Ordered}

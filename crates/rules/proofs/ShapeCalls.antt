@@ -1,30 +1,30 @@
 -- Every call leaves a state that 11 lets pass, if it was given one.
-use mathlib.Core.Path.{_≡_, refl, sym, ap, subst, _∙_}
+use mathlib.Core.Path.{_≡_, refl, ap, _∙_}
 use mathlib.Core.Bool.{Bool, true, false, not, _&&_, _||_, and-false}
-use mathlib.Core.List.{List, [], _∷_, _++_, map}
-use Prim.Native.Nat.{ℕ, zero, suc, _+_, _-_, _≤_, _<_}
+use mathlib.Core.List.{List, [], _∷_}
+use Prim.Native.Nat.{ℕ, suc, _+_, _-_, _≤_, _<_}
 use native.Mathlib.Omega.{arith}
-use lib.Dec.{leb, ltb, eqb}
+use lib.Dec.{eqb}
 use lib.ListN.{length}
-use borrow.Author.Tests.{lt-leb, lt-ltb, ltb-true, ltb-false, leb-false, eqb-true}
-use Rattle.rules.specs.Base.{if_then_else_, upTo, upFrom, any, anyOf, nonEmpty, rising}
-use Rattle.rules.specs.State.{Event, Message, Edge, Stored, unset, stored, State, Counters, numbered, withPending, withRun, withBatch, closed, poison, top, most}
-use Rattle.rules.specs.Rows.{Out, out, Row}
-use Rattle.rules.specs.Pending.{joins, before, insert, queue}
+use borrow.Author.Tests.{lt-leb, lt-ltb, ltb-false}
+use Rattle.rules.specs.Base.{upTo, upFrom, any, nonEmpty, rising}
+use Rattle.rules.specs.State.{Event, Message, Edge, Stored, stored, State, Counters, numbered, withPending, withRun, withBatch, closed, poison, top}
+use Rattle.rules.specs.Rows.{Out, Row}
+use Rattle.rules.specs.Pending.{joins, insert, queue}
 use Rattle.rules.specs.Foreign.{badEdges, atTop, isUnset, byProcess}
 use Rattle.rules.specs.Refresh.{raised, refreshed}
-use Rattle.rules.specs.Step.{take, takenAt, raisedEdges, newEdges, newHorizons, advanced, step}
-use Rattle.rules.specs.HandBack.{Emission, processRows, messages, handled, handBack}
+use Rattle.rules.specs.Step.{take, takenAt, raisedEdges, newHorizons, advanced}
+use Rattle.rules.specs.HandBack.{Emission, processRows, messages, handled}
 use Rattle.rules.specs.Calls.{Call, AddInitial, Begin, Step, HandBack, rule}
 use Rattle.rules.proofs.Tests.{by-bool, and-off, and-other, not-false, not-both}
 use Rattle.rules.proofs.Lists.{All, all-map, all-mapped, all-front, all-rest, empty-nil}
-use Rattle.rules.proofs.Cases.{InitialPassed, InitialCases, by-initial, BeginPassed, BeginCases, by-begin, Steps, StepCases, by-step, Commits, BackCases, by-back}
-use Rattle.rules.proofs.Shape.{Short, Known, Joined, Sized, Wired, Queued, Held, Runs, Shaped, homeless-never}
+use Rattle.rules.proofs.Cases.{InitialPassed, by-initial, BeginPassed, by-begin, Steps, by-step, Commits, by-back}
+use Rattle.rules.proofs.Shape.{Short, Known, Joined, Sized, Wired, Queued, Held, Runs, Shaped}
 use Rattle.rules.proofs.Tally.{length-insert, length-messages, take-shorter}
-use Rattle.rules.proofs.Order.{Pairs, pairs-rising, Sorted, sorted, sorted-rises, all-insert, Apart, sorted-insert}
+use Rattle.rules.proofs.Order.{pairs-rising, sorted, sorted-rises, all-insert, Apart, sorted-insert}
 use Rattle.rules.proofs.Checks.{each-emission}
 use Rattle.rules.proofs.Fronts.{length-edges}
-use Rattle.rules.proofs.Take.{Both, take-all, take-sorted, take-few, Ascend, take-rises, upFrom-length}
+use Rattle.rules.proofs.Take.{take-all, take-sorted, take-few, Ascend, take-rises, upFrom-length}
 
 -- Pending events
 

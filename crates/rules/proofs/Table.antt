@@ -1,6 +1,6 @@
 -- Tables of refusals: what a row that decides tells, and what it tells that none does.
-use mathlib.Core.Path.{_≡_, refl}
-use mathlib.Core.Bool.{Bool, true, false}
+use mathlib.Core.Path.{_≡_}
+use mathlib.Core.Bool.{true, false}
 use mathlib.Core.List.{List, [], _∷_, _++_}
 use Rattle.rules.specs.Answers.{Refusal}
 use Rattle.rules.specs.Rows.{Row, unless}

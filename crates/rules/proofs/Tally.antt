@@ -1,7 +1,7 @@
 -- Conservation, what is in hand, and the counters: kept by every call.
 use mathlib.Core.Path.{_≡_, refl, sym, ap, _∙_}
 use mathlib.Core.Bool.{Bool, true, false}
-use mathlib.Core.List.{List, [], _∷_, map}
+use mathlib.Core.List.{List, [], _∷_}
 use Prim.Native.Nat.{ℕ, zero, suc, _+_, _-_, _≤_, min}
 use native.Mathlib.Omega.{arith}
 use lib.Dec.{ltb, eqb}
@@ -10,7 +10,7 @@ use Rattle.rules.specs.Base.{if_then_else_, Maybe, none, some, upTo}
 use Rattle.rules.specs.State.{Event, Message, Edge, State, Counters, numbered, most}
 use Rattle.rules.specs.Answers.{Answer}
 use Rattle.rules.specs.Rows.{Out, out}
-use Rattle.rules.specs.Pending.{before, insert, firstOf, withoutFirst, queue}
+use Rattle.rules.specs.Pending.{insert, firstOf, withoutFirst, queue}
 use Rattle.rules.specs.Frontiers.{safe, below, eligible}
 use Rattle.rules.specs.Step.{Taken, takeOne, take, takenAt, countRaised}
 use Rattle.rules.specs.HandBack.{Emission, messages}

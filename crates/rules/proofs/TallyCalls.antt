@@ -1,24 +1,22 @@
 -- Every call keeps the tally.
 use mathlib.Core.Path.{_≡_, refl, sym, ap, _∙_}
-use mathlib.Core.Bool.{Bool, true, false, true≢false}
+use mathlib.Core.Bool.{true, false, true≢false}
 use mathlib.Core.List.{List, [], _∷_}
-use Prim.Native.Nat.{ℕ, suc, _+_, min, max}
+use Prim.Native.Nat.{ℕ, suc, _+_, min}
 use native.Mathlib.Omega.{arith}
 use lib.Dec.{eqb}
 use lib.ListN.{length}
-use Rattle.rules.specs.State.{Event, Message, State, Counters, numbered, withPending, withRun, withBatch, closed, poison, most}
+use Rattle.rules.specs.State.{Event, Message, State, numbered, withPending, withRun, withBatch, closed, poison, most}
 use Rattle.rules.specs.Answers
 use Rattle.rules.specs.Answers.{Answer, Accepted, Batch, Advanced, Finished, Committed, Refused, Refusal, refusalNumber, number}
-use Rattle.rules.specs.Rows.{Out, out, refuse}
-use Rattle.rules.specs.Initial.{addInitial}
-use Rattle.rules.specs.Begin.{begin}
+use Rattle.rules.specs.Rows.{out, refuse}
 use Rattle.rules.specs.Refresh.{refreshed}
-use Rattle.rules.specs.Step.{takenAt, countRaised, newEdges, nullsOf, advanced, countAdvance, step}
-use Rattle.rules.specs.HandBack.{Emission, messages, handled, countRound, lose, handBack}
+use Rattle.rules.specs.Step.{countRaised, nullsOf, advanced, countAdvance}
+use Rattle.rules.specs.HandBack.{Emission, messages, handled, countRound}
 use Rattle.rules.specs.Calls.{Call, AddInitial, Begin, Step, HandBack, rule}
-use Rattle.rules.specs.History.{Entry, History, onward, isInitial, isBegin, isHandBack, emissions, refused, isCommitted, isAdvanced, isBatch, inHand, commits}
-use Rattle.rules.proofs.Tests.{not-both, and-off}
-use Rattle.rules.proofs.Cases.{Losing, InitialCases, by-initial, BeginCases, by-begin, Steps, StepCases, by-step, Commits, BackCases, by-back}
+use Rattle.rules.specs.History.{History, isInitial, isBegin, isHandBack, emissions, refused, isCommitted, isAdvanced, isBatch, inHand, commits}
+use Rattle.rules.proofs.Tests.{not-both}
+use Rattle.rules.proofs.Cases.{by-initial, by-begin, StepCases, by-step, Commits, BackCases, by-back}
 use Rattle.rules.proofs.Shape.{Shaped, passes-11, homeless-never}
 use Rattle.rules.proofs.Counts.{entryOf, unhandled, handles, no-turn, commit-turn, advance-turn, no-initial, one-initial, used-same, used-more, used-anew, hand-batch, hand-gone, hand-stays}
 use Rattle.rules.proofs.Tally.{length-insert, length-messages, length-queue, taken-splits, Tallied, Tells, counted-same, Calm, calm, unmoved, away}

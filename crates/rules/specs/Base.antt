@@ -2,7 +2,7 @@
 use mathlib.Core.Bool.{Bool, true, false, _&&_, _||_}
 use mathlib.Core.List.{List, [], _∷_}
 use Prim.Native.Nat.{ℕ, zero, suc, _+_}
-use lib.Dec.{ltb, eqb}
+use lib.Dec.{eqb}
 
 infixr 20 if_then_else_
 unfoldable pub if_then_else_ {ℓ} : {A : Type ℓ} → Bool → A → A → A

@@ -1,7 +1,6 @@
 -- Rehearsals beside those on paper, for what these leave out.
 use mathlib.Core.Path.{_≡_}
 use mathlib.Core.List.{List, [], _∷_, _++_}
-use Prim.Native.Nat.{ℕ}
 use Rattle.rules.specs.State.{State, Counters, withHandled, withBatch, most}
 use Rattle.rules.specs.Answers
 use Rattle.rules.specs.Answers.{Accepted, Batch, Advanced, Committed, Refused}

@@ -1,5 +1,5 @@
 -- Build: document 01, "Calls and what they turn away", rows 1 to 10.
-use mathlib.Core.Bool.{Bool, true, false, not, _&&_, _||_}
+use mathlib.Core.Bool.{Bool, true, false, not, _||_}
 use mathlib.Core.List.{List, [], _∷_, _++_, map}
 use Prim.Native.Nat.{ℕ, _+_, _^_}
 use lib.Dec.{leb, ltb, eqb}
@@ -7,7 +7,7 @@ use lib.ListN.{length, take, drop}
 use Rattle.rules.specs.Base.{if_then_else_, Maybe, none, some, upTo, any, anyOf, member, sum, count, rising}
 use Rattle.rules.specs.State.{Edge, Counters, State, unset, zeros, most-processes, most-edges}
 use Rattle.rules.specs.Answers
-use Rattle.rules.specs.Answers.{Refusal, Answer, Accepted, Refused}
+use Rattle.rules.specs.Answers.{Answer, Accepted, Refused}
 use Rattle.rules.specs.Rows.{Row, _⇒_, unless}
 
 -- "Build takes n, L, process ids, rows (source, how many destinations) and one list from which the rows take their destinations in turn."

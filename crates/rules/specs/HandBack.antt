@@ -1,10 +1,10 @@
 -- Hand back: document 01, "Step and hand back", rows 11, 12, 25, 26, then 27 to 33, 19, 18, 24.
-use mathlib.Core.Bool.{Bool, true, false, not, _&&_, _||_}
+use mathlib.Core.Bool.{Bool, false, not, _&&_, _||_}
 use mathlib.Core.List.{List, [], _∷_, _++_, map}
-use Prim.Native.Nat.{ℕ, suc, _+_, _^_, _/_, _%_, max}
+use Prim.Native.Nat.{ℕ, _+_, _^_, _/_, _%_, max}
 use lib.Dec.{leb, ltb, eqb}
 use lib.ListN.{length, getD}
-use Rattle.rules.specs.Base.{if_then_else_, upTo, any, anyOf, member, count, nonEmpty}
+use Rattle.rules.specs.Base.{if_then_else_, upTo, any, anyOf, count, nonEmpty}
 use Rattle.rules.specs.State.{Message, Event, Stored, unset, stored, State, Counters, withHandled, closed, poison, raise, top, most, most-processes, most-pending, most-payload}
 use Rattle.rules.specs.Answers
 use Rattle.rules.specs.Answers.{Refusal, Committed, Refused}

@@ -1,7 +1,7 @@
 -- Add initial: rows 11, 12, then 13 to 19.
-use mathlib.Core.Bool.{Bool, not}
+use mathlib.Core.Bool.{not}
 use mathlib.Core.List.{List, [], _∷_}
-use Prim.Native.Nat.{ℕ, suc, _+_}
+use Prim.Native.Nat.{suc, _+_}
 use lib.Dec.{leb, ltb}
 use lib.ListN.{length}
 use Rattle.rules.specs.State.{State, Counters, Message, numbered, withPending, most, most-pending, most-payload}

@@ -1,6 +1,5 @@
 -- The four reads: document 01, "Reads and plan". They check 11 and nothing else, and leave state and counters as given.
-use mathlib.Core.List.{List, [], _∷_, map}
-use Prim.Native.Nat.{ℕ}
+use mathlib.Core.List.{[], _∷_, map}
 use lib.ListN.{length}
 use Rattle.rules.specs.State.{Event, State, Counters, top}
 use Rattle.rules.specs.Answers

@@ -1,6 +1,6 @@
 -- What a runtime is: its limits, events, edges, counters and state.
 use mathlib.Core.Bool.{Bool, true, false}
-use mathlib.Core.List.{List, [], _∷_}
+use mathlib.Core.List.{List, []}
 use Prim.Native.Nat.{ℕ, _+_, _-_, _^_, min}
 
 -- "Limits: 1 to 64 processes, ids 0 to n-1; 512 edges; 512 pending events; payload 0 to 16 bytes; 1,024 entities."

@@ -1,6 +1,6 @@
 -- Step: document 01, "Step and hand back", rows 11, 12, 23, 24.
-use mathlib.Core.Bool.{Bool, true, false, not, _&&_, _||_}
-use mathlib.Core.List.{List, [], _∷_, map}
+use mathlib.Core.Bool.{Bool, false, not, _&&_, _||_}
+use mathlib.Core.List.{List, [], _∷_}
 use Prim.Native.Nat.{ℕ, zero, suc, _+_, _-_, min, max}
 use lib.Dec.{leb, ltb}
 use Rattle.rules.specs.Base.{if_then_else_, Maybe, none, some, upTo, every, nonEmpty}
