@@ -5,7 +5,7 @@ use mathlib.Core.List.{List, [], _∷_, map}
 use Prim.Native.Nat.{ℕ, _+_, _*_, _/_, _≤_, min}
 use lib.ListN.{length}
 use Rattle.rules.specs.State.{Event, most}
-use Rattle.rules.specs.Answers.{Read, Counted, Pending, number}
+use Rattle.rules.specs.Answers.{Reading, Read, Counted, Pending, number}
 use Rattle.rules.specs.Build.{Setup}
 use Rattle.rules.specs.Reads.{readCounters, readPending}
 use Rattle.rules.specs.History.{Entry, History, L, E, R, H, initials, inHand, handled, emitted, remote, rounds, nulls, workers, used, handedTo}
@@ -20,6 +20,20 @@ abbrev pub Never : ℕ → List Entry → Type 0
 Never k [] = Unit {0}
 Never k (e ∷ es) = (number (e .answer) ≡ k → ⊥) × Never k es
 
+-- The counts as the counters read them: each, or 2^64 - 1 where it is larger.
+abbrev pub counts : List Entry → Reading
+counts es =
+    Counted
+    (record {
+      handled = min most (handled es);
+      emitted = min most (emitted es);
+      remote = min most (remote es);
+      rounds = min most (rounds es);
+      nulls = min most (nulls es);
+      workers = workers es;
+    })
+    (min most (used es))
+
 pub record Demanded (a : Setup) (y : History) : Type 0 where
   -- Each process was handed its events in nondecreasing tick order.
   pub order : (p : ℕ) → Nondecreasing (map (λ (e : Event). e .tick) (handedTo p (y .entries)))
@@ -32,7 +46,7 @@ pub record Demanded (a : Setup) (y : History) : Type 0 where
   -- null messages ≤ E × (floor(H / L) + R)
   pub few-nulls : nulls (y .entries) ≤ E a * (H (y .entries) / L a + R (y .entries))
   -- "The counters read after the list equal these counts, or 2^64 - 1 where one is larger."
-  pub counters : readCounters (y .now) (y .counters) .answer ≡ Read (Counted (record { handled = min most (handled (y .entries)); emitted = min most (emitted (y .entries)); remote = min most (remote (y .entries)); rounds = min most (rounds (y .entries)); nulls = min most (nulls (y .entries)); workers = workers (y .entries) }) (min most (used (y .entries))))
+  pub counters : readCounters (y .now) (y .counters) .answer ≡ Read (counts (y .entries))
   -- No call of the list is refused with 11.
   pub no-foreign : Never 11 (y .entries)
   -- Beyond document 01, for A.5: nor with 33.
