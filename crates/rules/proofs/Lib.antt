@@ -8,6 +8,7 @@ pub mod RefusalsBack
 pub mod RefusalsPlan
 pub mod Refusals
 pub mod Beside
+pub mod Counting
 -- Tools: tests, lists, tables of refusals, and what each call can do.
 pub mod Tests
 pub mod Lists

@@ -30,3 +30,4 @@ pub mod RefusalsBack
 pub mod RefusalsPlan
 pub mod Refusals
 pub mod Beside
+pub mod Counting
