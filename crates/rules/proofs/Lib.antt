@@ -42,3 +42,5 @@ pub mod Built
 pub mod Sequence
 pub mod Demand
 pub mod Carried
+-- Laws for the code.
+pub mod Again
