@@ -1,5 +1,7 @@
 //! Runs the smallest inputs of docs/DIFFERENCES.md on the original and checks what it says of them.
-use kairo_ecs_pdes::{ConservativeProcess, ConservativeRuntime, LpId, PartitionPlan, RemoteEvent, RuntimeError};
+use kairo_ecs_pdes::{
+    ConservativeProcess, ConservativeRuntime, LpId, PartitionPlan, RemoteEvent, RuntimeError,
+};
 use kairo_ecs_types::{EntityId, SimDuration, SimTime};
 use std::collections::BTreeMap;
 
@@ -18,15 +20,26 @@ impl ConservativeProcess for Handler {
 /// A runtime with lookahead 1 and these rows, whose handlers panic or do not.
 fn runtime(rows: &[&[u32]], panics: bool) -> ConservativeRuntime<Handler> {
     let count = rows.len() as u32;
-    let plan = PartitionPlan::from_entities(count, SimDuration::from_ticks(1), vec![EntityId::new(0, 0)]).unwrap();
-    let topology = rows.iter().enumerate().map(|(p, row)| (LpId(p as u32), row.iter().map(|&d| LpId(d)).collect())).collect();
+    let plan =
+        PartitionPlan::from_entities(count, SimDuration::from_ticks(1), vec![EntityId::new(0, 0)])
+            .unwrap();
+    let topology = rows
+        .iter()
+        .enumerate()
+        .map(|(p, row)| (LpId(p as u32), row.iter().map(|&d| LpId(d)).collect()))
+        .collect();
     let processes: BTreeMap<_, _> = (0..count).map(|p| (LpId(p), Handler { panics })).collect();
     ConservativeRuntime::new(plan, topology, processes).unwrap()
 }
 
 /// An event from process 0 to itself.
 fn to_itself(tick: u128) -> RemoteEvent {
-    RemoteEvent { source_lp: LpId(0), dest_lp: LpId(0), tick: SimTime::from_ticks(tick), event_payload: vec![] }
+    RemoteEvent {
+        source_lp: LpId(0),
+        dest_lp: LpId(0),
+        tick: SimTime::from_ticks(tick),
+        event_payload: vec![],
+    }
 }
 
 /// D1: an event was handled and no null message was sent.
@@ -46,8 +59,14 @@ fn panic_in_a_handler() {
     let mut runtime = runtime(&[&[]], true);
     runtime.schedule_initial(to_itself(0)).unwrap();
     std::panic::set_hook(Box::new(|_| {}));
-    assert_eq!(runtime.run_until_with_budget(SimTime::ZERO, 1), Err(RuntimeError::HandlerPanicked(LpId(0))));
-    assert_eq!(runtime.run_until_with_budget(SimTime::ZERO, 1), Err(RuntimeError::Poisoned));
+    assert_eq!(
+        runtime.run_until_with_budget(SimTime::ZERO, 1),
+        Err(RuntimeError::HandlerPanicked(LpId(0)))
+    );
+    assert_eq!(
+        runtime.run_until_with_budget(SimTime::ZERO, 1),
+        Err(RuntimeError::Poisoned)
+    );
     let _ = std::panic::take_hook();
 }
 
