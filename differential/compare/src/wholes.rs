@@ -34,16 +34,17 @@ fn run(host: &mut Host, scenario: &Scenario, at: (u128, u64)) -> Option<Answer> 
     host.run(at.0, at.1, MOST_CALLS, &mut reply)
 }
 
-/// Whether all runs end, so that the original can be asked.
-pub fn ends(scenario: &Scenario) -> bool {
+/// Whether the original can be asked: all runs end, and none is refused with what it does not have.
+pub fn comparable(scenario: &Scenario) -> bool {
     let Ok(mut host) = start(Rules::RIGHT, scenario) else {
         return true;
     };
-    for message in &scenario.initial {
-        host.call(&Call::AddInitial(*message));
-    }
+    let initial = scenario.initial.iter().map(|m| Call::AddInitial(*m));
+    let added = initial
+        .map(|call| host.call(&call))
+        .all(|a| !only_in_rules(&a));
     let mut runs = scenario.runs.iter();
-    runs.all(|&at| run(&mut host, scenario, at).is_some())
+    added && runs.all(|&at| run(&mut host, scenario, at).is_some_and(|a| !only_in_rules(&a)))
 }
 
 fn start(rules: Rules, scenario: &Scenario) -> Result<Host, Answer> {
@@ -71,7 +72,7 @@ fn check_ran(check: &Check, host: &Host, rust: &Ran, answer: &Answer) -> Option<
         .or_else(|| check.state(&kept(&rust.state), &kept(&host.state)))
 }
 
-/// The original has no 17 and no 18: a scenario is compared up to there.
+/// The original has no 17 and no 18.
 fn only_in_rules(answer: &Answer) -> bool {
     use Refusal::{PayloadTooLong, QueueFull};
     matches!(answer, Answer::Refused(PayloadTooLong(_) | QueueFull))
@@ -102,9 +103,6 @@ pub fn check(rules: Rules, scenario: &Scenario, whole: &Whole) -> Option<Differe
         let Some(answer) = answer else {
             return check.same(Kind::Ending, &"ends", &"does not end");
         };
-        if rules == Rules::RIGHT && only_in_rules(&answer) {
-            return None;
-        }
         if let Some(found) = check_ran(&check, &host, rust, &answer) {
             return Some(found);
         }
@@ -116,7 +114,7 @@ pub fn check(rules: Rules, scenario: &Scenario, whole: &Whole) -> Option<Differe
 
 /// The first difference from the rules as they are.
 pub fn difference(scenario: &Scenario) -> Option<Difference> {
-    if !ends(scenario) {
+    if !comparable(scenario) {
         return None;
     }
     check(Rules::RIGHT, scenario, &run_whole(scenario))

@@ -58,7 +58,7 @@ fn found<T: Shrinks + Debug>(
 fn compare_one(seed: u64, number: u64, tally: &mut Tally) -> Vec<Found> {
     let parts = parts(seed, number);
     let mut all = vec![];
-    if wholes::ends(&parts.whole) {
+    if wholes::comparable(&parts.whole) {
         let whole = oracle::run_whole(&parts.whole);
         wholes::count(&whole, tally);
         tally.whole_runs += parts.whole.runs.len() as u64;
@@ -83,9 +83,10 @@ fn compare_one(seed: u64, number: u64, tally: &mut Tally) -> Vec<Found> {
     all
 }
 
-/// How many threads share the work, each its own numbers.
+/// How many threads share the work, each its own numbers. Two for each core: one of them waits while
+/// the original's own threads run.
 pub fn workers() -> u64 {
-    std::thread::available_parallelism().map_or(1, |n| n.get() as u64)
+    std::thread::available_parallelism().map_or(1, |n| 2 * n.get() as u64)
 }
 
 /// Carries out `work` on each thread, given the numbers that are its own.

@@ -35,9 +35,9 @@ fn add_initial(dice: &mut Dice, shape: &Shape, s: &State) -> Call {
     Call::AddInitial(message)
 }
 
-fn begin(dice: &mut Dice, shape: &Shape) -> Call {
+fn begin(dice: &mut Dice, shape: &Shape, s: &State) -> Call {
     Call::Begin {
-        horizon: shape.horizon(dice),
+        horizon: shape.horizon(dice, s),
         budget: shape.budget(dice),
     }
 }
@@ -63,7 +63,7 @@ fn any_hand_back(dice: &mut Dice, s: &State) -> Call {
 fn any_call(dice: &mut Dice, shape: &Shape, s: &State) -> Call {
     match dice.below(12) {
         0 | 1 => add_initial(dice, shape, s),
-        2 | 3 => begin(dice, shape),
+        2 | 3 => begin(dice, shape, s),
         4 | 5 => Call::Step,
         6 | 7 => any_hand_back(dice, s),
         8 => dice.pick(&[&Call::ReadGvt, &Call::ReadCounters]).clone(),
@@ -86,8 +86,9 @@ pub fn next_call(dice: &mut Dice, shape: &Shape, s: &State) -> Call {
     if s.running {
         return hand_back(dice, s, shape.faults);
     }
-    if s.initial && !dice.one_in(4) {
+    let too_soon = s.pending.is_empty() && !dice.one_in(6);
+    if s.initial && (too_soon || !dice.one_in(shape.eager)) {
         return add_initial(dice, shape, s);
     }
-    begin(dice, shape)
+    begin(dice, shape, s)
 }

@@ -33,6 +33,7 @@ fn ring_shape(dice: &mut Dice) -> Shape {
         forward: false,
         odd: false,
         faults: dice.pick(&[0, 0, 200]),
+        eager: 8,
     }
 }
 
@@ -261,6 +262,9 @@ fn more_edges_than_there_may_be() -> List {
     }
 }
 
+/// How many large lists the stored sample has.
+pub const STORED: u64 = 6;
+
 /// The large lists of the stored sample.
 pub fn stored_list(dice: &mut Dice, number: u64) -> List {
     match number {
@@ -272,6 +276,6 @@ pub fn stored_list(dice: &mut Dice, number: u64) -> List {
             list.calls = vec![large_plan(dice), large_plan(dice)];
             list
         }
-        _ => ring_list(dice, 14),
+        _ => ring_list(dice, 12),
     }
 }

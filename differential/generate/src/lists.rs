@@ -7,10 +7,13 @@ use crate::setups::{any_setup, good_setup};
 use crate::shape::Shape;
 use model::{Call, Host, List, Odd, Rules, Setup, Stored, TOP};
 
-/// The calls that follow from what the rules answer, `count` of them.
+/// The calls that follow from what the rules answer, `count` of them; a few where it gets poisoned.
 fn follow(dice: &mut Dice, shape: &Shape, host: &mut Host, count: u64) -> Vec<Call> {
     let mut calls = vec![];
     for _ in 0..count {
+        if host.state.poisoned && dice.one_in(3) {
+            break;
+        }
         let call = next_call(dice, shape, &host.state);
         host.call(&call);
         calls.push(call);
@@ -60,21 +63,29 @@ pub fn list(dice: &mut Dice) -> List {
     list_of(dice, &shape, setup, odd, count)
 }
 
-/// A list for the stored sample: from build alone, and short.
-pub fn stored_list(dice: &mut Dice, number: u64) -> List {
-    match number {
-        0..=7 => return large::stored_list(dice, number),
-        _ if dice.one_in(8) => {
-            let setup = any_setup(dice);
-            let shape = Shape::natural(dice);
-            return list_of(dice, &shape, setup, None, 0);
-        }
-        _ => {}
+/// The shape of a list that is stored: small, and faulty as a rule.
+fn stored_shape(dice: &mut Dice) -> Shape {
+    let shape = Shape::natural(dice);
+    Shape {
+        n: shape.n.min(4),
+        spread: 2 + dice.below(4),
+        faults: dice.pick(&[0, 2, 4]),
+        eager: dice.pick(&[2, 3]),
+        ..shape
     }
-    let mut shape = Shape::natural(dice);
-    shape.faults = dice.pick(&[0, 4, 8]);
-    shape.n = shape.n.min(4);
+}
+
+/// A list for the stored sample: from build alone, and short. The first ones are large.
+pub fn stored_list(dice: &mut Dice, number: u64) -> List {
+    if number < large::STORED {
+        return large::stored_list(dice, number);
+    }
+    let shape = stored_shape(dice);
+    if dice.one_in(7) {
+        let setup = any_setup(dice);
+        return list_of(dice, &shape, setup, None, 0);
+    }
     let setup = good_setup(dice, &shape);
-    let count = 4 + dice.below(12);
+    let count = 5 + dice.below(10);
     list_of(dice, &shape, setup, None, count)
 }

@@ -4,7 +4,7 @@ use crate::setups::any_id;
 use model::{Call, Emission, Event, Message, Payload, State, MOST, TOP};
 
 pub fn payload(dice: &mut Dice) -> Payload {
-    let length = dice.pick(&[0, 0, 0, 1, 2, 3, 15, 16]);
+    let length = dice.pick(&[0, 0, 0, 0, 0, 1, 1, 2, 3, 16]);
     let byte = dice.below(256) as u8;
     Payload::new(length, [byte; 16])
 }
@@ -57,7 +57,7 @@ fn spoil(dice: &mut Dice, s: &State, e: &Event, m: &mut Message) {
     match dice.below(8) {
         0 => m.source = any_id(dice, n),
         1 => m.destination = n.saturating_add(dice.below(2) as u32),
-        2 => m.destination = any_id(dice, n),
+        2 => m.destination = dice.below(s.n) as u32,
         3 => m.tick = m.tick.saturating_sub(1 + u128::from(dice.below(3))),
         4 => m.tick = minimum(s, e, m.destination).saturating_sub(1),
         5 => m.tick = local.saturating_sub(u128::from(dice.below(2))),
@@ -95,7 +95,7 @@ pub fn hand_back(dice: &mut Dice, s: &State, faults: u64) -> Call {
     let mut mask = 0;
     let mut emissions = vec![];
     for e in &s.batch {
-        if dice.one_in(faults * 2) {
+        if dice.one_in(faults * 4) {
             mask |= 1 << e.destination;
             continue;
         }
@@ -106,7 +106,7 @@ pub fn hand_back(dice: &mut Dice, s: &State, faults: u64) -> Call {
             });
         }
     }
-    if dice.one_in(faults) {
+    if dice.one_in(faults * 2) {
         spoil_reply(dice, s, &mut mask, &mut emissions);
     }
     Call::HandBack { mask, emissions }

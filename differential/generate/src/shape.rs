@@ -1,6 +1,6 @@
 //! What kind of scenario it is going to be.
 use crate::dice::Dice;
-use model::{MOST, TOP};
+use model::{State, MOST, TOP};
 
 #[derive(Clone, Debug)]
 pub struct Shape {
@@ -17,6 +17,8 @@ pub struct Shape {
     pub odd: bool,
     /// One in so many emissions or replies is faulty; none for 0.
     pub faults: u64,
+    /// One in so many calls before the first run begins it.
+    pub eager: u64,
 }
 
 /// Small numbers, so that everything collides.
@@ -30,6 +32,7 @@ fn dense(dice: &mut Dice) -> Shape {
         forward: dice.one_in(4),
         odd: dice.one_in(6),
         faults: dice.pick(&[0, 0, 6, 12, 25]),
+        eager: 4,
     }
 }
 
@@ -101,12 +104,17 @@ impl Shape {
         self.low.saturating_add(above)
     }
 
-    pub fn horizon(&self, dice: &mut Dice) -> u128 {
+    /// A horizon, as a rule not below the last one.
+    pub fn horizon(&self, dice: &mut Dice, s: &State) -> u128 {
         let above = u128::from(dice.below(self.spread + 3));
+        let last = s.stored.map_or(0, |stored| stored.horizon);
+        let any = self.low.saturating_add(above);
         match dice.below(30) {
             0 => TOP,
             1 if self.forward => TOP - 1,
-            _ => self.low.saturating_add(above),
+            2..=5 => any,
+            6..=9 => last.max(self.low),
+            _ => any.max(last),
         }
     }
 

@@ -6,9 +6,10 @@ use crate::odd::odd;
 use crate::replies::message;
 use crate::setups::good_setup;
 use crate::shape::Shape;
-use model::{Call, Event, Host, Reply, Rules, Scenario};
+use model::{Answer, Call, Event, Host, Refusal, Reply, Rules, Scenario};
 
-/// A run that takes more calls than this is left out of its scenario.
+/// A run that takes more calls than this is left out of its scenario; so is one that ends with 18,
+/// which the original does not have.
 const MOST_CALLS: usize = 600;
 
 /// Makes up the replies while the rules run, and notes them.
@@ -51,10 +52,12 @@ pub fn add_runs(dice: &mut Dice, shape: &Shape, host: &mut Host, to: &mut Scenar
         dice,
     };
     for _ in 0..count {
-        let (horizon, budget) = (shape.horizon(author.dice), shape.budget(author.dice));
+        let horizon = shape.horizon(author.dice, &host.state);
+        let budget = shape.budget(author.dice);
         let kept = (host.clone(), author.replies.clone());
         let mut reply = |host: &Host, event: &Event| author.reply(host, event);
-        if host.run(horizon, budget, MOST_CALLS, &mut reply).is_some() {
+        let answer = host.run(horizon, budget, MOST_CALLS, &mut reply);
+        if answer.is_some_and(|answer| answer != Answer::Refused(Refusal::QueueFull)) {
             to.runs.push((horizon, budget));
         } else {
             (*host, author.replies) = kept;

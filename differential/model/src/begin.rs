@@ -24,9 +24,6 @@ impl Rules {
         if s.running {
             return Some(Refusal::RunOpen);
         }
-        if self.wrong(Variant::OverflowBeforeRegression) && over {
-            return Some(Refusal::HorizonOverflow(horizon));
-        }
         if falls {
             return Some(Refusal::HorizonRegression(previous, horizon));
         }

@@ -84,10 +84,7 @@ impl Rules {
     /// "each edge bound from s rises to min(H, min(safe(s), first pending tick or H) + L), or to H
     /// on overflow."
     fn bound_to(self, s: &State, edges: &[Edge], h: u128, p: u32) -> u128 {
-        let aim = match self.variant() {
-            Variant::BoundPastPending => safe(edges, h, p),
-            _ => aim(s, edges, h, p),
-        };
+        let aim = aim(s, edges, h, p);
         match aim.checked_add(s.lookahead) {
             None if self.wrong(Variant::OverflowWraps) => aim.wrapping_add(s.lookahead),
             None => h,

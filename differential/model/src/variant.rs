@@ -50,7 +50,6 @@ variants! {
     ClosedBeforePoisoned: "12 is checked after 13",
     EqualHorizonRefused: "21 at an equal horizon",
     HorizonOverflowEarly: "22 at the horizon 2^128 - 2",
-    OverflowBeforeRegression: "22 is checked before 21",
     RefusedBeginCloses: "a refused begin closes initial events",
     UsedNotReset: "begin does not set used to 0",
     // Step.
@@ -59,7 +58,6 @@ variants! {
     BudgetForgotten: "the batch is cut by the budget without what was used",
     BoundNotCapped: "a bound is not capped at H",
     OverflowWraps: "a bound wraps at overflow",
-    BoundPastPending: "a bound passes the source's first pending tick",
     BoundFalls: "a bound is set, also to less",
     SafeReadLate: "safe is read while bounds are raised",
     NullsByProcess: "null messages are counted by process, not by edge",
