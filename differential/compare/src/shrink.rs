@@ -189,3 +189,23 @@ impl Shrinks for Scenario {
         all
     }
 }
+
+#[cfg(test)]
+mod tests {
+    use super::*;
+    use crate::lists;
+    use generate::Dice;
+    use model::{Rules, Variant};
+
+    /// The smallest list that tells the two runtimes apart has one event, and nothing else.
+    #[test]
+    fn a_difference_gets_small() {
+        let wrong = Rules::of(Variant::EligibleAtSafe);
+        let differs = |list: &List| lists::check(wrong, list, &lists::observe(list)).is_some();
+        let mut lists = (0..).map(|number| generate::list(&mut Dice::new(number)));
+        let found = lists.find(|list| list.calls.len() > 10 && differs(list));
+        let smallest = shrink(&found.expect("there are such lists"), differs);
+        assert!(smallest.calls.len() <= 4, "{smallest:?}");
+        assert!(differs(&smallest));
+    }
+}

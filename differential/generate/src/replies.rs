@@ -76,7 +76,7 @@ pub fn message(dice: &mut Dice, s: &State, e: &Event, faults: u64) -> Message {
 }
 
 /// Makes a reply malformed, perhaps.
-fn spoil_reply(dice: &mut Dice, s: &State, mask: &mut u64, emissions: &mut Vec<Emission>) {
+fn spoil_reply(dice: &mut Dice, s: &State, mask: &mut u64, emissions: &mut [Emission]) {
     let at = dice.index(emissions.len());
     match dice.below(8) {
         0 => emissions.reverse(),

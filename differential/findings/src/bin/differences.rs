@@ -70,8 +70,62 @@ fn panic_in_a_handler() {
     let _ = std::panic::take_hook();
 }
 
+/// D4: 65 processes are built.
+fn no_limit_of_processes() {
+    let rows = vec![&[][..]; 65];
+    assert_eq!(runtime(&rows, false).processes().len(), 65);
+}
+
+/// D4: 513 edges are built.
+fn no_limit_of_edges() {
+    let mut rows = vec![vec![]; 24];
+    let pairs = (0..24).flat_map(|p| (0..24).map(move |d| (p, d)));
+    for (p, d) in pairs.filter(|(p, d)| p != d).take(513) {
+        rows[p].push(d as u32);
+    }
+    let rows: Vec<&[u32]> = rows.iter().map(Vec::as_slice).collect();
+    runtime(&rows, false);
+}
+
+/// D4: the 513th initial event is taken, and one with a payload of 17 bytes.
+fn no_limit_of_events() {
+    let mut runtime = runtime(&[&[]], false);
+    for _ in 0..513 {
+        runtime.schedule_initial(to_itself(0)).unwrap();
+    }
+    let mut long = to_itself(0);
+    long.event_payload = vec![0; 17];
+    runtime.schedule_initial(long).unwrap();
+    assert_eq!(runtime.pending_events(), 514);
+}
+
+/// D4: 1,025 entities are shared out.
+fn no_limit_of_entities() {
+    let entities = (0..1025).map(|index| EntityId::new(index, 0)).collect();
+    let plan = PartitionPlan::from_entities(1, SimDuration::from_ticks(1), entities).unwrap();
+    assert_eq!(plan.segments()[0].entities.len(), 1025);
+}
+
+/// D5: missing and unexpected processes are told by their ids.
+fn ids_of_a_mismatch() {
+    let lookahead = SimDuration::from_ticks(1);
+    let plan = PartitionPlan::from_entities(1, lookahead, vec![EntityId::new(0, 0)]).unwrap();
+    let processes = BTreeMap::from([(LpId(7), Handler { panics: false })]);
+    let refused = ConservativeRuntime::new(plan, BTreeMap::new(), processes).err();
+    let expected = RuntimeError::ProcessSetMismatch {
+        missing: vec![LpId(0)],
+        unexpected: vec![LpId(7)],
+    };
+    assert_eq!(refused, Some(expected));
+}
+
 fn main() {
     no_null_message_after_an_event();
     panic_in_a_handler();
-    println!("differential: the Rust does what docs/DIFFERENCES.md says of it, 2 inputs");
+    no_limit_of_processes();
+    no_limit_of_edges();
+    no_limit_of_events();
+    no_limit_of_entities();
+    ids_of_a_mismatch();
+    println!("differential: the Rust does what docs/DIFFERENCES.md says of it, 8 inputs");
 }
