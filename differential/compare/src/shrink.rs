@@ -1,5 +1,5 @@
 //! The smallest form of a difference: whatever can be left out while it still differs, is.
-use model::{Call, List, Odd, Reply, Scenario, Setup};
+use model::{Call, Emission, List, Message, Odd, Payload, Reply, Scenario, Setup};
 
 /// Something of which parts can be left out.
 pub trait Shrinks: Sized + Clone {
@@ -61,16 +61,43 @@ fn without_edge(setup: &Setup, odd: &Option<Odd>) -> Vec<(Setup, Option<Odd>)> {
     all
 }
 
+impl Shrinks for Message {
+    fn smaller(&self) -> Vec<Self> {
+        let empty = Message {
+            payload: Payload::default(),
+            ..*self
+        };
+        Vec::from_iter((empty != *self).then_some(empty))
+    }
+}
+
+impl Shrinks for Emission {
+    fn smaller(&self) -> Vec<Self> {
+        let messages = self.message.smaller().into_iter();
+        messages
+            .map(|message| Emission { message, ..*self })
+            .collect()
+    }
+}
+
+/// The list without one element, or with one made smaller.
+fn shorter<T: Shrinks>(list: &[T]) -> impl Iterator<Item = Vec<T>> {
+    without_one(list).into_iter().chain(one_smaller(list))
+}
+
 impl Shrinks for Call {
     fn smaller(&self) -> Vec<Self> {
         match self {
-            Call::HandBack { mask, emissions } => without_one(emissions)
-                .into_iter()
-                .map(|emissions| Call::HandBack {
-                    mask: *mask,
-                    emissions,
-                })
-                .collect(),
+            Call::AddInitial(message) => {
+                let messages = message.smaller().into_iter();
+                messages.map(Call::AddInitial).collect()
+            }
+            Call::HandBack { mask, emissions } => {
+                let mask = *mask;
+                shorter(emissions)
+                    .map(|emissions| Call::HandBack { mask, emissions })
+                    .collect()
+            }
             Call::Plan {
                 n,
                 lookahead,
@@ -102,42 +129,28 @@ fn without_id(setup: &Setup) -> Vec<Setup> {
 
 impl Shrinks for List {
     fn smaller(&self) -> Vec<Self> {
-        let with = |calls| List {
-            calls,
-            ..self.clone()
-        };
-        let mut all: Vec<List> = without_one(&self.calls).into_iter().map(with).collect();
-        all.extend(one_smaller(&self.calls).into_iter().map(with));
-        all.extend(
-            without_edge(&self.setup, &self.odd)
-                .into_iter()
-                .map(|(setup, odd)| List {
-                    setup,
-                    odd,
-                    calls: self.calls.clone(),
-                }),
-        );
-        if self.odd.is_some() {
-            all.push(List {
-                odd: None,
-                ..self.clone()
-            });
-        }
-        all.extend(without_id(&self.setup).into_iter().map(|setup| List {
+        let same = || self.clone();
+        let calls = shorter(&self.calls).map(|calls| List { calls, ..same() });
+        let edges = without_edge(&self.setup, &self.odd).into_iter();
+        let edges = edges.map(|(setup, odd)| List {
             setup,
-            ..self.clone()
-        }));
-        all
+            odd,
+            ..same()
+        });
+        let ids = without_id(&self.setup).into_iter();
+        let ids = ids.map(|setup| List { setup, ..same() });
+        let odd = self.odd.iter().map(|_| List {
+            odd: None,
+            ..same()
+        });
+        calls.chain(edges).chain(ids).chain(odd).collect()
     }
 }
 
 impl Shrinks for Reply {
     fn smaller(&self) -> Vec<Self> {
         match self {
-            Reply::Emits(messages) => without_one(messages)
-                .into_iter()
-                .map(Reply::Emits)
-                .collect(),
+            Reply::Emits(messages) => shorter(messages).map(Reply::Emits).collect(),
             Reply::Fails => vec![Reply::Emits(vec![])],
         }
     }
@@ -146,47 +159,30 @@ impl Shrinks for Reply {
 /// A process's replies.
 impl Shrinks for Vec<Reply> {
     fn smaller(&self) -> Vec<Self> {
-        let mut all = without_one(self);
-        all.extend(one_smaller(self));
-        all
+        shorter(self).collect()
     }
 }
 
 impl Shrinks for Scenario {
     fn smaller(&self) -> Vec<Self> {
         let same = || self.clone();
-        let mut all = vec![];
-        all.extend(
-            without_one(&self.runs)
-                .into_iter()
-                .map(|runs| Scenario { runs, ..same() }),
-        );
-        all.extend(
-            without_one(&self.initial)
-                .into_iter()
-                .map(|initial| Scenario { initial, ..same() }),
-        );
-        all.extend(
-            one_smaller(&self.replies)
-                .into_iter()
-                .map(|replies| Scenario { replies, ..same() }),
-        );
-        all.extend(
-            without_edge(&self.setup, &self.odd)
-                .into_iter()
-                .map(|(setup, odd)| Scenario {
-                    setup,
-                    odd,
-                    ..same()
-                }),
-        );
-        if self.odd.is_some() {
-            all.push(Scenario {
-                odd: None,
-                ..same()
-            });
-        }
-        all
+        let runs = without_one(&self.runs).into_iter();
+        let runs = runs.map(|runs| Scenario { runs, ..same() });
+        let initial = shorter(&self.initial).map(|initial| Scenario { initial, ..same() });
+        let replies = one_smaller(&self.replies).into_iter();
+        let replies = replies.map(|replies| Scenario { replies, ..same() });
+        let edges = without_edge(&self.setup, &self.odd).into_iter();
+        let edges = edges.map(|(setup, odd)| Scenario {
+            setup,
+            odd,
+            ..same()
+        });
+        let odd = self.odd.iter().map(|_| Scenario {
+            odd: None,
+            ..same()
+        });
+        let parts = runs.chain(initial).chain(replies);
+        parts.chain(edges).chain(odd).collect()
     }
 }
 

@@ -50,10 +50,11 @@ fn sample(count: u64, seed: u64) -> Vec<List> {
     all
 }
 
-/// A list is stored as its words are read again.
-fn reads_back(list: &List) -> bool {
-    let bytes = words::bytes(&words::encode(list));
-    words::decode(&bytes) == [list.clone()]
+/// The words of the sample's list with this number. In one of eight lists, what does not count is not
+/// zero.
+fn stored_words(list: &List, number: usize) -> Vec<u8> {
+    let noise = if number % 8 == 7 { 0x89ab_cdef } else { 0 };
+    words::bytes(&words::encode(list, noise))
 }
 
 /// Writes the sample to the folder. Whether the rules agree with it.
@@ -61,13 +62,14 @@ pub fn store(folder: &Path, count: u64, seed: u64) -> bool {
     let (mut calls, mut answers, mut origins) = (vec![], String::new(), String::new());
     let mut tally = Tally::default();
     let mut differ = 0;
-    for list in sample(count, seed) {
+    for (number, list) in sample(count, seed).into_iter().enumerate() {
+        let written = stored_words(&list, number);
         let observed = lists::observe(&list);
         lists::count(&observed, &mut tally);
         let right = lists::check(Rules::RIGHT, &list, &observed).is_none();
-        differ += u64::from(!right || !reads_back(&list));
+        differ += u64::from(!right || words::decode(&written) != [list]);
         let (lines, letters) = lines(&observed);
-        calls.extend(words::bytes(&words::encode(&list)));
+        calls.extend(written);
         answers.extend(lines);
         origins += &(letters + "\n");
         tally.lists += 1;

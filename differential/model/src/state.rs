@@ -1,4 +1,5 @@
 //! What a runtime is: its limits, events, edges, counters and state (State.antt).
+use std::fmt;
 
 /// "Limits: 1 to 64 processes, ids 0 to n-1; 512 edges; 512 pending events; payload 0 to 16 bytes;
 /// 1,024 entities."
@@ -16,7 +17,7 @@ pub const MOST: u64 = u64::MAX;
 
 /// A length and up to 16 bytes. Bytes behind the length are zero; a length above 16 is refused by
 /// every call, so its bytes do not matter.
-#[derive(Clone, Copy, Debug, Default, Eq, PartialEq)]
+#[derive(Clone, Copy, Default, Eq, PartialEq)]
 pub struct Payload {
     length: u64,
     bytes: [u8; 16],
@@ -45,14 +46,18 @@ impl Payload {
         self.length
     }
 
-    /// All sixteen.
-    pub fn places(&self) -> [u8; 16] {
-        self.bytes
-    }
-
     /// Those within the length.
     pub fn bytes(&self) -> &[u8] {
         &self.bytes[..self.length.min(MOST_PAYLOAD) as usize]
+    }
+}
+
+/// Its length and its bytes in hexadecimal.
+impl fmt::Debug for Payload {
+    fn fmt(&self, f: &mut fmt::Formatter<'_>) -> fmt::Result {
+        write!(f, "{}:", self.length)?;
+        let mut bytes = self.bytes().iter();
+        bytes.try_for_each(|byte| write!(f, "{byte:02x}"))
     }
 }
 

@@ -151,7 +151,6 @@ impl Rules {
         let nulls = self.nulls_of(&s.edges, &edges);
         let rose = match self.variant() {
             Variant::HorizonsAreNoAdvance => nulls > 0,
-            Variant::AdvancedAlways => true,
             _ => nulls > 0 || any_raised(&s.horizons, &horizons),
         };
         let old = std::mem::replace(&mut s.edges, edges);
@@ -181,15 +180,18 @@ impl Rules {
     /// "If any was taken, answer the batch. Else if used >= budget and an event is eligible, 24.
     /// Else advance". 24 leaves "run closed, otherwise as reached".
     fn step_run(self, mut s: State, c: Counters, at: Stored) -> Out {
+        if self.wrong(Variant::FinishedAtOnce) {
+            s.running = false;
+            return Out::new(Answer::Finished(s.gvt), s, c);
+        }
+        if self.wrong(Variant::AdvancedAlways) {
+            return Out::new(Answer::Advanced(s.gvt), s, c);
+        }
         let taken = self.taken_at(&s, at);
         if !taken.events.is_empty() {
             s.batch = taken.events.clone();
             s.pending = taken.left;
             return Out::new(Answer::Batch(taken.events, s.gvt), s, c);
-        }
-        if self.wrong(Variant::FinishedAtOnce) {
-            s.running = false;
-            return Out::new(Answer::Finished(s.gvt), s, c);
         }
         if self.spent(&s, at) {
             s.running = false;

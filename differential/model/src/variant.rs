@@ -32,7 +32,7 @@ variants! {
     PartQueued: "part of a round is queued before its refusal",
     HandledBeforeChecks: "handled is raised before the checks",
     SequenceAheadOfSource: "sequence is ahead of source in the order",
-    FinishedAtOnce: "Finished at the first step without a batch",
+    FinishedAtOnce: "Finished at the first step",
     SpentBeforeEligible: "24 before anything is eligible",
     EverythingAtOnce: "everything is handed out in the first round",
     RoundsAlwaysZero: "rounds are always 0",

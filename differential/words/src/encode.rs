@@ -1,89 +1,119 @@
 //! A list of calls as 64-bit words.
-use model::{Call, Emission, Entity, List, Message, Setup};
+use model::{Call, Emission, Entity, List, Message, Payload, Setup};
 
-fn put_wide(number: u128, to: &mut Vec<u64>) {
-    to.push((number >> 64) as u64);
-    to.push(number as u64);
+/// The words so far, and what stands where nothing counts: in the upper half of an id word, and in
+/// the payload bytes behind the length.
+struct Words {
+    words: Vec<u64>,
+    noise: u32,
 }
 
-fn put_message(m: &Message, to: &mut Vec<u64>) {
-    to.extend([u64::from(m.source), u64::from(m.destination)]);
-    put_wide(m.tick, to);
-    to.push(m.payload.length());
-    put_wide(u128::from_be_bytes(m.payload.places()), to);
-}
-
-fn put_setup(setup: &Setup, to: &mut Vec<u64>) {
-    to.push(setup.n);
-    put_wide(setup.lookahead, to);
-    to.push(setup.ids.len() as u64);
-    to.extend(setup.ids.iter().map(|&id| u64::from(id)));
-    to.push(setup.sources.len() as u64);
-    for (&source, &count) in setup.sources.iter().zip(&setup.counts) {
-        to.extend([u64::from(source), count]);
+impl Words {
+    fn put(&mut self, words: impl IntoIterator<Item = u64>) {
+        self.words.extend(words);
     }
-    to.push(setup.destinations.len() as u64);
-    to.extend(setup.destinations.iter().map(|&id| u64::from(id)));
-}
 
-fn put_emissions(emissions: &[Emission], to: &mut Vec<u64>) {
-    to.push(emissions.len() as u64);
-    for emission in emissions {
-        to.push(u64::from(emission.emitter));
-        put_message(&emission.message, to);
+    fn wide(&mut self, number: u128) {
+        self.put([(number >> 64) as u64, number as u64]);
     }
-}
 
-fn put_entities(entities: &[Entity], to: &mut Vec<u64>) {
-    to.push(entities.len() as u64);
-    for entity in entities {
-        to.extend([entity.index, entity.generation]);
+    fn id(&mut self, id: u32) {
+        self.put([u64::from(self.noise) << 32 | u64::from(id)]);
     }
-}
 
-fn put_call(call: &Call, to: &mut Vec<u64>) {
-    match call {
-        Call::AddInitial(message) => {
-            to.push(0);
-            put_message(message, to);
+    fn ids(&mut self, ids: &[u32]) {
+        self.put([ids.len() as u64]);
+        ids.iter().for_each(|id| self.id(*id));
+    }
+
+    fn payload(&mut self, payload: &Payload) {
+        let mut bytes = [self.noise as u8; 16];
+        for (to, from) in bytes.iter_mut().zip(payload.bytes()) {
+            *to = *from;
         }
-        Call::Begin { horizon, budget } => {
-            to.push(1);
-            put_wide(*horizon, to);
-            to.push(*budget);
+        self.put([payload.length()]);
+        self.wide(u128::from_be_bytes(bytes));
+    }
+
+    fn message(&mut self, m: &Message) {
+        self.id(m.source);
+        self.id(m.destination);
+        self.wide(m.tick);
+        self.payload(&m.payload);
+    }
+
+    fn setup(&mut self, setup: &Setup) {
+        self.put([setup.n]);
+        self.wide(setup.lookahead);
+        self.ids(&setup.ids);
+        self.put([setup.sources.len() as u64]);
+        for (&source, &count) in setup.sources.iter().zip(&setup.counts) {
+            self.id(source);
+            self.put([count]);
         }
-        Call::Step => to.push(2),
-        Call::HandBack { mask, emissions } => {
-            to.extend([3, *mask]);
-            put_emissions(emissions, to);
+        self.ids(&setup.destinations);
+    }
+
+    fn emissions(&mut self, emissions: &[Emission]) {
+        self.put([emissions.len() as u64]);
+        for emission in emissions {
+            self.id(emission.emitter);
+            self.message(&emission.message);
         }
-        Call::ReadGvt => to.push(4),
-        Call::ReadCounters => to.push(5),
-        Call::ReadPending => to.push(6),
-        Call::ReadEarliest => to.push(7),
-        Call::Plan {
-            n,
-            lookahead,
-            lent,
-            entities,
-        } => {
-            to.extend([8, *n]);
-            put_wide(*lookahead, to);
-            to.push(*lent);
-            put_entities(entities, to);
+    }
+
+    fn entities(&mut self, entities: &[Entity]) {
+        self.put([entities.len() as u64]);
+        for entity in entities {
+            self.put([entity.index, entity.generation]);
+        }
+    }
+
+    fn call(&mut self, call: &Call) {
+        match call {
+            Call::AddInitial(message) => {
+                self.put([0]);
+                self.message(message);
+            }
+            Call::Begin { horizon, budget } => {
+                self.put([1]);
+                self.wide(*horizon);
+                self.put([*budget]);
+            }
+            Call::Step => self.put([2]),
+            Call::HandBack { mask, emissions } => {
+                self.put([3, *mask]);
+                self.emissions(emissions);
+            }
+            Call::ReadGvt => self.put([4]),
+            Call::ReadCounters => self.put([5]),
+            Call::ReadPending => self.put([6]),
+            Call::ReadEarliest => self.put([7]),
+            Call::Plan {
+                n,
+                lookahead,
+                lent,
+                entities,
+            } => {
+                self.put([8, *n]);
+                self.wide(*lookahead);
+                self.put([*lent]);
+                self.entities(entities);
+            }
         }
     }
 }
 
 /// The words of a list. Private fields set by hand have no words.
-pub fn encode(list: &List) -> Vec<u64> {
-    let mut words = vec![];
-    put_setup(&list.setup, &mut words);
-    words.push(list.calls.len() as u64);
-    for call in &list.calls {
-        put_call(call, &mut words);
-    }
-    words
+pub fn encode(list: &List, noise: u32) -> Vec<u64> {
+    let mut words = Words {
+        words: vec![],
+        noise,
+    };
+    words.setup(&list.setup);
+    words.put([list.calls.len() as u64]);
+    list.calls.iter().for_each(|call| words.call(call));
+    words.words
 }
 
 /// Words as a file has them: "least significant byte first".

@@ -43,7 +43,7 @@ fn the_example_of_the_page() {
 #[test]
 fn a_file_that_breaks_off_is_read_up_to_its_last_whole_call() {
     let list = c3();
-    let bytes = words::bytes(&words::encode(&list));
+    let bytes = words::bytes(&words::encode(&list, 0));
     assert_eq!(words::decode(&bytes), std::slice::from_ref(&list));
     for end in 0..bytes.len() {
         let read = words::decode(&bytes[..end]);
@@ -54,4 +54,15 @@ fn a_file_that_breaks_off_is_read_up_to_its_last_whole_call() {
             assert!(part.calls.len() < list.calls.len());
         }
     }
+}
+
+#[test]
+fn upper_halves_of_ids_and_bytes_behind_a_payload_do_not_count() {
+    let mut list = c3();
+    if let Call::AddInitial(message) = &mut list.calls[0] {
+        message.payload = Payload::of(&[1, 2, 3]);
+    }
+    let (plain, noisy) = (words::encode(&list, 0), words::encode(&list, 0xabcd));
+    assert_ne!(plain, noisy);
+    assert_eq!(words::decode(&words::bytes(&noisy)), [list]);
 }
