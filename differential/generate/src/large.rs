@@ -49,7 +49,7 @@ fn crowd_shape(dice: &mut Dice) -> Shape {
     }
 }
 
-/// 513 initial events: "The 513th initial: 18."
+/// As many initial events as may be pending.
 fn crowd(dice: &mut Dice, shape: &Shape, setup: &Setup) -> Vec<Message> {
     let Ok(host) = Host::build(Rules::RIGHT, setup) else {
         return vec![];
@@ -151,8 +151,11 @@ fn full_queue(dice: &mut Dice) -> List {
     list
 }
 
-fn ring_list(dice: &mut Dice, count: usize) -> List {
-    let shape = ring_shape(dice);
+fn ring_list(dice: &mut Dice, count: usize, eager: u64) -> List {
+    let shape = Shape {
+        eager,
+        ..ring_shape(dice)
+    };
     let mut list = List {
         setup: ring(),
         odd: None,
@@ -177,7 +180,8 @@ pub fn list(dice: &mut Dice) -> List {
     if dice.one_in(2) {
         full_queue(dice)
     } else {
-        ring_list(dice, 60)
+        let eager = dice.pick(&[4, 40]);
+        ring_list(dice, 70, eager)
     }
 }
 
@@ -276,6 +280,6 @@ pub fn stored_list(dice: &mut Dice, number: u64) -> List {
             list.calls = vec![large_plan(dice), large_plan(dice)];
             list
         }
-        _ => ring_list(dice, 12),
+        _ => ring_list(dice, 12, 3),
     }
 }
