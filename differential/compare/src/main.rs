@@ -1,0 +1,65 @@
+//! Compares the original with the rules.
+//!
+//!     compare quick             some thousand scenarios, and document 01's rehearsals
+//!     compare full [N]          N scenarios (a million if not given)
+//!     compare slips [N]         every wrong program is noticed within N scenarios
+//!     compare store DIR [N [SEED]]  N lists of calls with the original's answers
+//!     compare answer FILE       the original's answers to the lists of a file
+//!
+//! Exit status: 0 no difference, 1 a difference, 2 nothing was compared.
+
+mod difference;
+mod lists;
+mod plans;
+mod rehearse;
+mod shrink;
+mod slips;
+mod store;
+mod tally;
+mod wholes;
+mod work;
+
+use std::process::ExitCode;
+
+const SEED: u64 = 20_260_101;
+const QUICK: u64 = 12_000;
+const FULL: u64 = 1_000_000;
+const SLIPS: u64 = 8_000;
+const STORED: u64 = 1_500;
+
+/// The number at this place of the arguments, or `otherwise` if there is none.
+fn number(words: &[String], at: usize, otherwise: u64) -> Option<u64> {
+    words
+        .get(at)
+        .map_or(Some(otherwise), |word| word.parse().ok())
+}
+
+/// What the arguments ask for: whether there was no difference. None if they ask for nothing.
+fn carry_out(words: &[String]) -> Option<bool> {
+    let first = words.first().map(String::as_str);
+    match (first, words.len()) {
+        (Some("quick"), 1) => Some(rehearse::rehearse() & work::compare(SEED, QUICK)),
+        (Some("full"), 1 | 2) => Some(work::compare(SEED, number(words, 1, FULL)?)),
+        (Some("slips"), 1 | 2) => Some(slips::slips(SEED, number(words, 1, SLIPS)?)),
+        (Some("store"), 2..=4) => {
+            let (count, seed) = (number(words, 2, STORED)?, number(words, 3, SEED)?);
+            Some(store::store(words[1].as_ref(), count, seed))
+        }
+        (Some("answer"), 2) => Some(store::answer(words[1].as_ref())),
+        _ => None,
+    }
+}
+
+fn main() -> ExitCode {
+    let words: Vec<String> = std::env::args().skip(1).collect();
+    match carry_out(&words) {
+        Some(true) => ExitCode::SUCCESS,
+        Some(false) => ExitCode::from(1),
+        None => {
+            println!(
+                "usage: compare quick | full [N] | slips [N] | store DIR [N [SEED]] | answer FILE"
+            );
+            ExitCode::from(2)
+        }
+    }
+}

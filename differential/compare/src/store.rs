@@ -1,0 +1,126 @@
+//! The stored sample: lists of calls with the original's answers.
+use crate::lists::{self, Observed, Seen};
+use crate::tally::Tally;
+use generate::Dice;
+use model::{Laid, List, Rules};
+use oracle::Origin;
+use std::path::Path;
+
+/// The line of a call.
+fn line(seen: &Seen) -> String {
+    match &seen.list {
+        Some(list) => words::plan_line(&Laid {
+            answer: seen.answer.clone(),
+            list: list.clone(),
+        }),
+        None => words::line(&seen.answer, &seen.counters, &seen.state),
+    }
+}
+
+fn letter(origin: Origin) -> char {
+    match origin {
+        Origin::Rust => 'r',
+        Origin::Rules => '0',
+    }
+}
+
+/// The lines of a list's answers, and who gave them: one letter for each line.
+pub fn lines(observed: &Observed) -> (Vec<String>, String) {
+    match &observed.built {
+        Err((answer, origin)) => {
+            let line = words::refused_build_line(answer);
+            (vec![line], letter(*origin).to_string())
+        }
+        Ok(built) => {
+            let seen = || std::iter::once(built).chain(&observed.calls);
+            let letters = seen().map(|seen| letter(seen.origin)).collect();
+            (seen().map(line).collect(), letters)
+        }
+    }
+}
+
+/// The lists of the sample: document 01's rehearsals (but for the long one), then others.
+fn sample(count: u64, seed: u64) -> Vec<List> {
+    let rehearsals = generate::rehearsals().into_iter().map(|r| r.list);
+    let mut all: Vec<List> = rehearsals.filter(|list| list.calls.len() < 100).collect();
+    for number in 0..count.saturating_sub(all.len() as u64) {
+        let mut dice = Dice::new(seed.wrapping_mul(1 << 32) ^ number);
+        all.push(generate::stored_list(&mut dice, number));
+    }
+    all
+}
+
+/// The words of the sample's list with this number. In one of eight lists, what does not count is not
+/// zero.
+fn stored_words(list: &List, number: usize) -> Vec<u8> {
+    let noise = if number % 8 == 7 { 0x89ab_cdef } else { 0 };
+    words::bytes(&words::encode(list, noise))
+}
+
+/// Writes the sample to the folder. Whether the rules agree with it.
+pub fn store(folder: &Path, count: u64, seed: u64) -> bool {
+    let (mut calls, mut answers, mut origins) = (vec![], String::new(), String::new());
+    let mut tally = Tally::default();
+    let mut differ = 0;
+    for (number, list) in sample(count, seed).into_iter().enumerate() {
+        let written = stored_words(&list, number);
+        let observed = lists::observe(&list);
+        lists::count(&observed, &mut tally);
+        let right = lists::check(Rules::RIGHT, &list, &observed).is_none();
+        differ += u64::from(!right || words::decode(&written) != [list]);
+        let (lines, letters) = lines(&observed);
+        calls.extend(written);
+        answers.extend(lines);
+        origins += &(letters + "\n");
+        tally.lists += 1;
+    }
+    let files = [
+        ("calls.words", &calls[..]),
+        ("answers.txt", answers.as_bytes()),
+        ("origin.txt", origins.as_bytes()),
+    ];
+    let bytes: usize = files.iter().map(|(_, bytes)| bytes.len()).sum();
+    println!(
+        "sample: seed {seed}, {} lists, {} lines, {} of them by the Rust, {bytes} bytes, {differ} differences",
+        tally.lists,
+        tally.by_rust + tally.by_rules,
+        tally.by_rust
+    );
+    println!("sample: refusals: {}", tally.refusals());
+    differ == 0
+        && files
+            .iter()
+            .all(|(name, bytes)| written(&folder.join(name), bytes))
+}
+
+fn written(path: &Path, bytes: &[u8]) -> bool {
+    let done = std::fs::write(path, bytes);
+    if let Err(cause) = &done {
+        println!("sample: {} cannot be written: {cause}", path.display());
+    }
+    done.is_ok()
+}
+
+/// Prints the original's answers to the lists of a file, and compares the rules with them.
+pub fn answer(file: &Path) -> bool {
+    let bytes = match std::fs::read(file) {
+        Ok(bytes) => bytes,
+        Err(cause) => {
+            println!("{} cannot be read: {cause}", file.display());
+            return false;
+        }
+    };
+    let mut right = true;
+    for list in words::decode(&bytes) {
+        let observed = lists::observe(&list);
+        right &= lists::check(Rules::RIGHT, &list, &observed).is_none();
+        print!("{}", lines(&observed).0.concat());
+    }
+    right
+}
+
+/// Whether an answer's line begins with these words.
+pub fn begins(line: &str, with: &str) -> bool {
+    let rest = line.strip_prefix(with);
+    rest.is_some_and(|rest| rest.starts_with([' ', '\n']))
+}

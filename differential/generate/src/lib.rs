@@ -1,0 +1,20 @@
+//! Scenarios and lists of calls, made from a seed: the same seed gives the same ones.
+
+mod calls;
+mod dice;
+mod large;
+mod lists;
+mod odd;
+mod plans;
+mod rehearsals;
+mod replies;
+mod setups;
+mod shape;
+mod whole;
+
+pub use dice::Dice;
+pub use lists::{list, stored_list};
+pub use plans::plan;
+pub use rehearsals::{rehearsals, Rehearsal};
+pub use setups::any_setup;
+pub use whole::scenario;

@@ -1,0 +1,68 @@
+//! docs/CALLS.md: its example, and files that break off.
+use model::{Call, Host, List, Message, Payload, Rules, Setup};
+
+/// C3 of document 01.
+fn c3() -> List {
+    let message = Message {
+        source: 0,
+        destination: 1,
+        tick: 2,
+        payload: Payload::default(),
+    };
+    let begin = Call::Begin {
+        horizon: 9,
+        budget: 1_000_000,
+    };
+    List {
+        setup: Setup {
+            n: 2,
+            lookahead: 3,
+            ids: vec![0, 1],
+            sources: vec![0, 1],
+            counts: vec![1, 1],
+            destinations: vec![1, 0],
+        },
+        odd: None,
+        calls: vec![Call::AddInitial(message), begin, Call::Step],
+    }
+}
+
+#[test]
+fn the_example_of_the_page() {
+    let list = c3();
+    let mut host = Host::build(Rules::RIGHT, &list.setup).expect("C3 is built");
+    let mut lines = vec![words::built_line(&host.counters, &host.state)];
+    for call in &list.calls {
+        let answer = host.call(call);
+        lines.push(words::line(&answer, &host.counters, &host.state));
+    }
+    let example = lines.iter().map(|line| format!("    {line}"));
+    assert!(include_str!("../../../docs/CALLS.md").contains(&example.collect::<String>()));
+}
+
+#[test]
+fn a_file_that_breaks_off_is_read_up_to_its_last_whole_call() {
+    let list = c3();
+    let bytes = words::bytes(&words::encode(&list, 0));
+    assert_eq!(words::decode(&bytes), std::slice::from_ref(&list));
+    for end in 0..bytes.len() {
+        let read = words::decode(&bytes[..end]);
+        assert!(read.len() <= 1);
+        for part in read {
+            assert_eq!(part.setup, list.setup);
+            assert_eq!(part.calls, list.calls[..part.calls.len()]);
+            assert!(part.calls.len() < list.calls.len());
+        }
+    }
+}
+
+#[test]
+fn upper_halves_of_ids_and_bytes_behind_a_payload_do_not_count() {
+    let mut list = c3();
+    if let Call::AddInitial(message) = &mut list.calls[0] {
+        message.payload = Payload::of(&[1, 2, 3]);
+    }
+    let (plain, noisy) = (words::encode(&list, 0), words::encode(&list, 0xabcd));
+    assert_ne!(plain, noisy);
+    assert_eq!(words::decode(&words::bytes(&noisy)), [list]);
+}
