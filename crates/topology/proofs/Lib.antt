@@ -1,0 +1,3 @@
+pub mod Ascent
+pub mod Sums
+pub mod Decided
