@@ -19,7 +19,7 @@ use Rattle.rules.proofs.Tests.{by-bool}
 use Rattle.topology.specs.declared.Fault.{Fault}
 use Rattle.topology.specs.declared.Fault.the-variants as fault
 use Rattle.topology.proofs.Fault.{the-type}
-use Rattle.topology.specs.Judged.{decided, refusalOf, Fresh, JudgedRow, Shared}
+use Rattle.topology.specs.Judged.{decided, refusalOf, Fresh, JudgedRow, Fitting}
 use Rattle.topology.proofs.Sums.{sum-more}
 
 abbrev orElse : Maybe Refusal → Maybe Refusal → Maybe Refusal
@@ -148,7 +148,7 @@ pub record Turned (n : ℕ) (sources counts ds : List ℕ) (marks : List ℕ) (a
   pub low : (x : ℕ) → getD marks x 0 ≤ i
 
 module _ (n : ℕ) (sources counts ds : List ℕ) where
-  pub turned-none : Shared n sources counts ds → Turned n sources counts ds (replicate 64 0) 0 0
+  pub turned-none : Fitting n sources counts ds → Turned n sources counts ds (replicate 64 0) 0 0
   turned-none s = record { within = omega arith; room = refl; rest = omega (arith, s .used-up); left = refl; low = noughts 64 }
     where
       noughts : (k x : ℕ) → getD (replicate k 0) x 0 ≤ 0
@@ -156,7 +156,7 @@ module _ (n : ℕ) (sources counts ds : List ℕ) where
       noughts (suc k) zero = omega arith
       noughts (suc k) (suc x) = noughts k x
 
-  module _ (s : Shared n sources counts ds) (marks : List ℕ) (at i : ℕ) (t : Turned n sources counts ds marks at i) where
+  module _ (s : Fitting n sources counts ds) (marks : List ℕ) (at i : ℕ) (t : Turned n sources counts ds marks at i) where
     pub turned-all : length sources ≤ i → none ≡ decided (topologyRows n sources counts ds)
     turned-all h = sym (t .left ∙ rw (drop-of-length-le sources h) (row-none n _ _))
 
@@ -166,9 +166,6 @@ module _ (n : ℕ) (sources counts ds : List ℕ) where
 
       pub turned-fits : at + getD counts i 0 ≤ length ds
       turned-fits = omega (arith, t .rest, sum-more counts i (omega (arith, s .paired)))
-
-      pub turned-fresh : Fresh n marks (i + 1)
-      turned-fresh = record { room = omega (arith, s .few, t .room); unmarked = λ x. omega (arith, t .low x) }
 
       pub turned-unknown : (p : ℕ) → p ≡ getD sources i 0 → n ≤ p → some (UnknownTopologySource p) ≡ decided (topologyRows n sources counts ds)
       turned-unknown p e a = rw e (sym (opened-row ∙ row-unknown n _ _ _ _ _ (rw e at a)))

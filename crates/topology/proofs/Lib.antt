@@ -1,3 +1,2 @@
-pub mod Ascent
 pub mod Sums
 pub mod Decided

@@ -13,7 +13,8 @@ use Rattle.rules.specs.Base.{any, anyOf, sum, rising}
 use Rattle.rules.specs.Build.{malformedRows}
 use Rattle.rules.proofs.Tests.{by-bool, not-true, not-false}
 use Rattle.rules.proofs.Lists.{All, any-none}
-use Rattle.topology.specs.Judged.{Orderly, Fit, Shared}
+use Rattle.ids.specs.Judged.{Orderly}
+use Rattle.topology.specs.Judged.{RowsFit, Fitting}
 
 pub sum-more : (xs : List ℕ) (i : ℕ) → i < length xs → sum (drop i xs) ≡ getD xs i 0 + sum (drop (i + 1) xs)
 unfolding sum
@@ -39,19 +40,19 @@ module _ (xs : List ℕ) (i left : ℕ) where
 
 -- The four tests in turn; the first that fails decides.
 module _ (sources counts ds : List ℕ) where
-  pub fit-unpaired : (length sources ≡ length counts → ⊥) → Fit sources counts ds false
+  pub fit-unpaired : (length sources ≡ length counts → ⊥) → RowsFit sources counts ds false
   unfolding malformedRows anyOf any
   fit-unpaired h = record { of-setup = λ n l ids. rw (ne-eqb (length sources) (length counts) h) }
 
-  pub fit-unordered : length sources ≡ length counts → rising ltb sources ≡ false → Fit sources counts ds false
+  pub fit-unordered : length sources ≡ length counts → rising ltb sources ≡ false → RowsFit sources counts ds false
   unfolding malformedRows anyOf any
   fit-unordered h k = record { of-setup = λ n l ids. rw (eq-eqb (length sources) (length counts) h, k) }
 
-  pub fit-unused : length sources ≡ length counts → rising ltb sources ≡ true → eqb (sum counts) (length ds) ≡ false → Fit sources counts ds false
+  pub fit-unused : length sources ≡ length counts → rising ltb sources ≡ true → eqb (sum counts) (length ds) ≡ false → RowsFit sources counts ds false
   unfolding malformedRows anyOf any
   fit-unused h k s = record { of-setup = λ n l ids. rw (eq-eqb (length sources) (length counts) h, k, s) }
 
-  pub fit-used : length sources ≡ length counts → rising ltb sources ≡ true → eqb (sum counts) (length ds) ≡ true → Fit sources counts ds (leb (length ds) 512)
+  pub fit-used : length sources ≡ length counts → rising ltb sources ≡ true → eqb (sum counts) (length ds) ≡ true → RowsFit sources counts ds (leb (length ds) 512)
   unfolding malformedRows anyOf any
   fit-used h k s = record { of-setup = λ n l ids. rw (eq-eqb (length sources) (length counts) h, k, s) (few (length ds)) }
     where
@@ -59,7 +60,7 @@ module _ (sources counts ds : List ℕ) where
       few k = by-bool (leb k 512) (λ e. e ∙ rw (le-ltb 512 k (leb-true k 512 e))) (λ e. e ∙ rw (lt-ltb 512 k (leb-false k 512 e)))
 
 -- What rows that fit give to the checks after 5.
-module _ (n : ℕ) (sources counts ds : List ℕ) (few : n ≤ 64) (fit : Fit sources counts ds true) where
+module _ (n : ℕ) (sources counts ds : List ℕ) (few : n ≤ 64) (fit : RowsFit sources counts ds true) where
   passed : All (λ t. t ≡ false) (not (eqb (length sources) (length counts)) ∷ not (rising ltb sources) ∷ not (eqb (sum counts) (length ds)) ∷ ltb 512 (length ds) ∷ [])
   unfolding malformedRows anyOf
   passed = any-none (λ (t : Bool). t) _ (not-true _ (sym (fit .of-setup 0 0 [])))
@@ -67,5 +68,5 @@ module _ (n : ℕ) (sources counts ds : List ℕ) (few : n ≤ 64) (fit : Fit so
   pub fit-orderly : Orderly n sources
   fit-orderly = record { few = few; rise = not-false _ (passed .1 .0) }
 
-  pub fit-shared : Shared n sources counts ds
-  fit-shared = record { few = few; paired = eqb-true _ _ (not-false _ (passed .0)); used-up = eqb-true _ _ (not-false _ (passed .1 .1 .0)) }
+  pub fit-fitting : Fitting n sources counts ds
+  fit-fitting = record { few = few; paired = eqb-true _ _ (not-false _ (passed .0)); used-up = eqb-true _ _ (not-false _ (passed .1 .1 .0)) }

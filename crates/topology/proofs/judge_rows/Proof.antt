@@ -3,7 +3,7 @@ use Prim.Native.Nat.{_-_}
 use native.Mathlib.Omega.{arith}
 use lib.ListN.{length}
 use borrow.Author.Needs.{needs}
-use Rattle.topology.proofs.Decided.{refuses, Turned, turned-none, turned-all, turned-fits, turned-fresh, turned-unknown, turned-refused, turned-sound}
+use Rattle.topology.proofs.Decided.{refuses, Turned, turned-none, turned-all, turned-fits, turned-unknown, turned-refused, turned-sound}
 use Rattle.topology.proofs.judge_rows.Statement.{statement}
 use Rattle.topology.proofs.judge_rows.Tie as tie
 
@@ -29,7 +29,7 @@ returns : tie.Need-returns Inv-loop μ-loop
 returns c =
     let v = c .before .before .before .before in
     let s = v .before .before .before .before in
-    record { answer = turned-unknown _ _ _ _ (s .pre) _ _ _ (v .loop .inv) (c .before .before .before .loop-test .taken) _ (c .before .wide .ensures) (c .if1 .taken) }
+    turned-unknown _ _ _ _ (s .pre) _ _ _ (v .loop .inv) (c .before .before .before .loop-test .taken) _ (c .before .wide .ensures) (omega arith)
 
 mul-end : tie.Need-mul-end Inv-loop μ-loop
 mul-end c = omega arith
@@ -68,7 +68,7 @@ judge-row-requires : tie.Need-judge-row-requires Inv-loop μ-loop
 judge-row-requires c κs =
     let v = c .before .before .before .before .before .before .before in
     let s = v .before .before .before .before in
-    turned-fresh _ _ _ _ (s .pre) _ _ _ (v .loop .inv) (c .before .before .before .before .before .before .loop-test .taken)
+    record { room = omega (arith, s .pre .few, v .loop .inv .room); unmarked = λ x. omega (arith, v .loop .inv .low x) }
 
 enum-told : tie.Need-enum-told Inv-loop μ-loop
 enum-told c = search needs
@@ -85,7 +85,7 @@ loop-again c =
     let u = j .before .before .before .before in
     let v = u .before .before .before .before in
     let s = v .before .before .before .before in
-    turned-sound _ _ _ _ (s .pre) _ _ _ (v .loop .inv) (u .before .before .before .loop-test .taken) _ _ _ (u .before .wide .ensures) refl (u .if1 .left) (rw (c .enum-told .given .1) at (j .judge-row .ensures .answer)) (j .judge-row .ensures .marked) (j .judge-row .kept .1 .1 .1 .0)
+    turned-sound _ _ _ _ (s .pre) _ _ _ (v .loop .inv) (u .before .before .before .loop-test .taken) _ _ _ (u .before .wide .ensures) refl (omega arith) (rw (c .enum-told .given .1) at (j .judge-row .ensures .answer)) (j .judge-row .ensures .marked) (j .judge-row .kept .1 .1 .1 .0)
 
 returns-2 : tie.Need-returns-2 Inv-loop μ-loop
 returns-2 c =
@@ -93,10 +93,10 @@ returns-2 c =
     let u = j .before .before .before .before in
     let v = u .before .before .before .before in
     let s = v .before .before .before .before in
-    record { answer = turned-refused _ _ _ _ (s .pre) _ _ _ (v .loop .inv) (u .before .before .before .loop-test .taken) _ _ _ (u .before .wide .ensures) refl (u .if1 .left) (j .judge-row .ensures .answer) (refuses (j .judge-row .result) (c .match .keys2)) }
+    turned-refused _ _ _ _ (s .pre) _ _ _ (v .loop .inv) (u .before .before .before .loop-test .taken) _ _ _ (u .before .wide .ensures) refl (omega arith) (j .judge-row .ensures .answer) (refuses (j .judge-row .result) (c .match .keys2))
 
 returns-3 : tie.Need-returns-3 Inv-loop μ-loop
-returns-3 c = let v = c .before in let s = v .before .before .before .before in record { answer = turned-all _ _ _ _ (s .pre) _ _ _ (v .loop .inv) (c .loop-test .left) }
+returns-3 c = let v = c .before in let s = v .before .before .before .before in turned-all _ _ _ _ (s .pre) _ _ _ (v .loop .inv) (c .loop-test .left)
 
 pub judge-rows-spec : {M : Type 1} → statement M
 judge-rows-spec =

@@ -26,7 +26,7 @@ shared-slice-read-k c = omega arith
 returns : tie.Need-returns Inv-loop μ-loop
 returns c =
     let v = c .before .before .before in
-    sym (v .loop .inv ∙ sum-stops (v .before .args .counts .now) (v .loop .i) (v .loop .left) (omega arith) (c .if1 .taken))
+    sym (v .loop .inv ∙ sum-stops (v .before .args .counts .now) (v .loop .i) (v .loop .left) (omega arith) (omega arith))
 
 add-i : tie.Need-add-i Inv-loop μ-loop
 add-i c = omega arith
@@ -37,7 +37,7 @@ loop-less c = omega arith
 loop-again : tie.Need-loop-again Inv-loop μ-loop
 loop-again c =
     let v = c .before .before .before in
-    v .loop .inv ∙ sum-on (v .before .args .counts .now) (v .loop .i) (v .loop .left) (omega arith) (c .if1 .left)
+    v .loop .inv ∙ sum-on (v .before .args .counts .now) (v .loop .i) (v .loop .left) (omega arith) (omega arith)
 
 returns-2 : tie.Need-returns-2 Inv-loop μ-loop
 returns-2 c = let v = c .before in sym (v .loop .inv ∙ sum-ends (v .before .args .counts .now) (v .loop .i) (v .loop .left) (c .loop-test .left))

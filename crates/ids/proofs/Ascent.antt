@@ -16,7 +16,7 @@ use Rattle.rules.specs.Build.{missing, unexpected, leastRowless}
 use Rattle.rules.proofs.Tests.{and-off, by-bool}
 use Rattle.rules.proofs.Lists.{All, all-map, none-any}
 use Rattle.rules.proofs.Order.{Pairs, rising-pairs}
-use Rattle.topology.specs.Judged.{heads, Orderly, judgedIds, rowlessIn, rowless}
+use Rattle.ids.specs.Judged.{heads, Orderly, judgedIds, rowlessIn, rowless}
 
 -- 3: what is left of the list, from the number before place i on
 

@@ -2,8 +2,8 @@ use Prim.Native.Nat.{_^_, _<_}
 use native.Mathlib.Nat.{one-mul, mod-eq-of-lt}
 use lib.Pow.{pow-lt}
 use borrow.Author.Needs.{needs}
-use Rattle.topology.proofs.power.Statement.{statement}
-use Rattle.topology.proofs.power.Tie as tie
+use Rattle.ids.proofs.power.Statement.{statement}
+use Rattle.ids.proofs.power.Tie as tie
 
 shl-result : tie.Need-shl-result
 shl-result c = search needs

@@ -1,10 +1,10 @@
 use mathlib.Core.Path.{sym, ap, _∙_}
 use Prim.Native.Nat.{ℕ}
 use lib.Dec.{eqb}
-use Rattle.topology.proofs.Ascent.{heads-at, heads-none}
+use Rattle.ids.proofs.Ascent.{heads-at, heads-none}
 use borrow.Author.Needs.{needs}
-use Rattle.topology.proofs.stands_at.Statement.{statement}
-use Rattle.topology.proofs.stands_at.Tie as tie
+use Rattle.ids.proofs.stands_at.Statement.{statement}
+use Rattle.ids.proofs.stands_at.Tie as tie
 
 mul-wide : tie.Need-mul-wide
 mul-wide c = search needs

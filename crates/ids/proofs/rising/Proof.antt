@@ -4,9 +4,9 @@ use native.Mathlib.Omega.{arith}
 use lib.Dec.{ltb}
 use lib.ListN.{length, drop}
 use Rattle.rules.specs.Base.{rising}
-use Rattle.topology.proofs.Ascent.{rising-stops, rising-on, rising-ends}
-use Rattle.topology.proofs.rising.Statement.{statement}
-use Rattle.topology.proofs.rising.Tie as tie
+use Rattle.ids.proofs.Ascent.{rising-stops, rising-on, rising-ends}
+use Rattle.ids.proofs.rising.Statement.{statement}
+use Rattle.ids.proofs.rising.Tie as tie
 
 abbrev Inv-loop : tie.InvT-loop
 Inv-loop xs i₀ i = (1 ≤ i) × (rising ltb xs ≡ rising ltb (drop (i - 1) xs))
@@ -35,7 +35,7 @@ shared-slice-read-if1-2 c = omega arith
 returns : tie.Need-returns Inv-loop μ-loop
 returns c =
     let v = c .before .before .before .before in
-    sym (v .loop .inv .1 ∙ rising-stops (v .before .args .xs .now) (v .loop .i) (v .loop .inv .0) (omega arith) (c .if1 .taken))
+    sym (v .loop .inv .1 ∙ rising-stops (v .before .args .xs .now) (v .loop .i) (v .loop .inv .0) (omega arith) (omega arith))
 
 add-i : tie.Need-add-i Inv-loop μ-loop
 add-i c = omega arith
@@ -46,7 +46,7 @@ loop-less c = omega arith
 loop-again : tie.Need-loop-again Inv-loop μ-loop
 loop-again c =
     let v = c .before .before .before .before in
-    (omega arith, v .loop .inv .1 ∙ rising-on (v .before .args .xs .now) (v .loop .i) (v .loop .inv .0) (omega arith) (c .if1 .left))
+    (omega arith, v .loop .inv .1 ∙ rising-on (v .before .args .xs .now) (v .loop .i) (v .loop .inv .0) (omega arith) (omega arith))
 
 returns-2 : tie.Need-returns-2 Inv-loop μ-loop
 returns-2 c = let v = c .before in sym (v .loop .inv .1 ∙ rising-ends (v .before .args .xs .now) (v .loop .i) (v .loop .inv .0) (c .loop-test .left))

@@ -3,9 +3,9 @@ use mathlib.Core.Logic.{⊎-elim}
 use Prim.Native.Nat.{_-_}
 use native.Mathlib.Omega.{arith}
 use borrow.Author.Needs.{needs}
-use Rattle.topology.proofs.Ascent.{Met, mask-fits, met-none, met-on, met-off, met-all}
-use Rattle.topology.proofs.judge_ids.Statement.{statement}
-use Rattle.topology.proofs.judge_ids.Tie as tie
+use Rattle.ids.proofs.Ascent.{Met, mask-fits, met-none, met-on, met-off, met-all}
+use Rattle.ids.proofs.judge_ids.Statement.{statement}
+use Rattle.ids.proofs.judge_ids.Tie as tie
 
 abbrev Inv-loop : tie.InvT-loop
 Inv-loop ids n missing₀ at₀ p₀ missing at p = Met n ids missing at p

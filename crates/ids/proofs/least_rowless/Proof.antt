@@ -3,9 +3,9 @@ use Prim.Native.Nat.{_-_}
 use native.Mathlib.Omega.{arith}
 use borrow.Author.Needs.{needs}
 use borrow.Author.Tests.{not-true, not-false}
-use Rattle.topology.proofs.Ascent.{Rowed, rowed-none, rowed-on, rowed-off, rowed-all}
-use Rattle.topology.proofs.least_rowless.Statement.{statement}
-use Rattle.topology.proofs.least_rowless.Tie as tie
+use Rattle.ids.proofs.Ascent.{Rowed, rowed-none, rowed-on, rowed-off, rowed-all}
+use Rattle.ids.proofs.least_rowless.Statement.{statement}
+use Rattle.ids.proofs.least_rowless.Tie as tie
 
 abbrev Inv-loop : tie.InvT-loop
 Inv-loop sources n p₀ p = Rowed n sources p
