@@ -63,14 +63,14 @@ pub fn judge_ids(ids: &[u32], n: u64) -> Ids
 {
     let mut missing: u64 = 0;
     let mut at: usize = 0;
-    let mut p: u64 = 0;
-    while p < n {
-        if stands_at(ids, at, p) {
+    let mut id: u64 = 0;
+    while id < n {
+        if stands_at(ids, at, id) {
             at += 1;
         } else {
-            missing += power(p);
+            missing += power(id);
         }
-        p += 1;
+        id += 1;
     }
     let left = ids.len() - at;
     Ids {

@@ -18,13 +18,9 @@ use Rattle.rules.specs.Build.{destinationRows, topologyRows}
 use Rattle.rules.proofs.Tests.{by-bool}
 use Rattle.topology.specs.declared.Fault.{Fault}
 use Rattle.topology.specs.declared.Fault.the-variants as fault
-use Rattle.topology.proofs.Fault.{the-type}
 use Rattle.topology.specs.Judged.{decided, refusalOf, Fresh, JudgedRow, Fitting}
+use Rattle.topology.proofs.Fault.{the-type}
 use Rattle.topology.proofs.Sums.{sum-more}
-
-abbrev orElse : Maybe Refusal → Maybe Refusal → Maybe Refusal
-orElse none m = m
-orElse (some r) m = some r
 
 -- A fault that is not Sound refuses.
 pub refuses : (r : Fault) → OneOf (1 ∷ 2 ∷ 3 ∷ 4 ∷ []) (tagOf the-type r) → isSome (refusalOf r) ≡ true
@@ -36,6 +32,10 @@ refuses (fault.SelfLoop p) w = refl
 refuses (fault.DuplicateNeighbor p d) w = refl
 
 -- Two tables one behind the other: the first decides, else the second.
+abbrev orElse : Maybe Refusal → Maybe Refusal → Maybe Refusal
+orElse none m = m
+orElse (some r) m = some r
+
 decided-append : (rs ts : List Row) → decided (rs ++ ts) ≡ orElse (decided rs) (decided ts)
 unfolding decided unless if_then_else_
 decided-append [] ts = refl

@@ -1,8 +1,8 @@
 use mathlib.Core.Path.{sym, ap, _∙_}
 use Prim.Native.Nat.{ℕ}
 use lib.Dec.{eqb}
-use Rattle.ids.proofs.Ascent.{heads-at, heads-none}
 use borrow.Author.Needs.{needs}
+use Rattle.ids.proofs.Ascent.{heads-at, heads-none}
 use Rattle.ids.proofs.stands_at.Statement.{statement}
 use Rattle.ids.proofs.stands_at.Tie as tie
 
