@@ -1,0 +1,5 @@
+pub mod Stored
+pub mod Compared
+pub mod Placing
+pub mod Moved
+pub mod Gathered
