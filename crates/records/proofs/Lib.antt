@@ -3,3 +3,4 @@ pub mod Compared
 pub mod Placing
 pub mod Moved
 pub mod Gathered
+pub mod Samples

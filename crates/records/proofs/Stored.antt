@@ -1,8 +1,8 @@
 -- Records and edges in flat words: equal words say equal records, and what a store leaves of the others.
-use mathlib.Core.Path.{_≡_, refl, sym, ap, _∙_}
+use mathlib.Core.Path.{_≡_, sym, ap, _∙_}
 use mathlib.Core.Logic.{_≢_, ⊎-elim}
 use mathlib.Core.List.{List, [], _∷_, _++_, append-assoc}
-use Prim.Native.Nat.{ℕ, zero, suc, _+_, _-_, _*_, _≤_, _<_}
+use Prim.Native.Nat.{ℕ, suc, _+_, _-_, _*_, _≤_, _<_}
 use native.Mathlib.Omega.{arith}
 use native.Mathlib.Nat.{add-zero}
 use lib.ListN.{length, getD, set, take, drop, length-append, length-take, length-drop, List·getD-append}
@@ -10,10 +10,10 @@ use lib.Seq.{getD-take, getD-drop, getD-append-add, length-take-le, sets-eq}
 use Rattle.types.specs.declared.SimTime.{SimTime}
 use Rattle.types.specs.Value.{value}
 use Rattle.types.proofs.Halves.{lt-or-ge}
-use Rattle.words.specs.Words.{tab, tickAt, putTick}
-use Rattle.words.proofs.Tab.{tab-cong, length-tab}
-use Rattle.words.proofs.Ticks.{tick-cong, tick-same, tick-other, word-other}
-use Rattle.rules.specs.State.{Event, Edge}
+use Rattle.words.specs.Words.{tickAt, putTick, cleared}
+use Rattle.words.proofs.Tab.{tab-cong, length-tab, tab-push}
+use Rattle.words.proofs.Ticks.{tick-cong, tick-same, word-other}
+use Rattle.words.proofs.Places.{clear-front}
 use Rattle.records.specs.declared.Record.{Record}
 use Rattle.records.specs.Records.{payloadOf, eventOf, recordIn, wordsOf, putRecord, eventAt, eventsOf, edgeAt, edgesOf}
 
@@ -107,6 +107,15 @@ event-other w i k r h ne =
     (λ (b : k < i). event-cong _ w k k (λ j l. word-below w (8 * i) r h (8 * k + j) (omega arith)))
     (λ (b : i ≤ k). let c : i < k = omega (arith, ne) in event-cong _ w k k (λ j l. word-past w (8 * i) r h (8 * k + j) (omega arith)))
     (lt-or-ge k i)
+
+-- A record stored behind the last event, and words behind the events set to zero.
+pub events-push : (n : ℕ) (w : List ℕ) (r : Record) → 8 * n + 8 ≤ length w → eventsOf (n + 1) (putRecord w (8 * n) r) ≡ eventsOf n w ++ (eventOf r ∷ [])
+events-push n w r h =
+    let a : eventsOf n (putRecord w (8 * n) r) ≡ eventsOf n w = events-cong n _ w (λ k l. word-below w (8 * n) r h k l) in
+    tab-push (eventAt (putRecord w (8 * n) r)) n ∙ rw (a, event-same w n r h)
+
+pub events-cleared : (n from to : ℕ) (w : List ℕ) → 8 * n ≤ from → from ≤ to → to ≤ length w → eventsOf n (cleared from to w) ≡ eventsOf n w
+events-cleared n from to w h a b = events-cong n _ w (λ k l. clear-front from to w a b k (omega arith))
 
 -- A bound stored: its edge has it, and the others stay.
 pub bound-same : (w : List ℕ) (i : ℕ) (t : SimTime) → 4 * i + 4 ≤ length w

@@ -1,7 +1,7 @@
 -- The loop that moves words up by 8, from the last to the first: what the list is when the first i are left.
-use Prim.Native.Nat.{ℕ, zero, suc, _+_, _*_, _-_, _<_, _≤_}
-use mathlib.Core.Path.{_≡_, refl, sym, _∙_, ap}
-use mathlib.Core.List.{List, [], _∷_, _++_, append-assoc}
+use Prim.Native.Nat.{ℕ, suc, _+_, _-_, _<_, _≤_}
+use mathlib.Core.Path.{_≡_, sym, _∙_, ap}
+use mathlib.Core.List.{List, _∷_, _++_, append-assoc}
 use native.Mathlib.Numerals.{add-one}
 use native.Mathlib.Nat.{sub-self}
 use native.Mathlib.Omega.{arith}
@@ -9,6 +9,7 @@ use lib.ListN.{length, take, drop, getD, set, length-append, length-take, length
 use lib.Seq.{take-suc, drop-cons, set-at, length-take-le, getD-take}
 use Rattle.words.specs.Words.{shifted}
 
+-- What is behind the first i + 8 is in place.
 unfoldable pub partway : ℕ → ℕ → List ℕ → List ℕ
 partway n i w = take (i + 8) w ++ (take (n - i) (drop i w) ++ drop (n + 8) w)
 
@@ -20,6 +21,7 @@ pub partway-end : (n : ℕ) (w : List ℕ) → partway n 0 w ≡ shifted n w
 unfolding partway shifted
 partway-end n w = let e : n - 0 ≡ n = omega arith in rw e
 
+-- The word at j goes to j + 8.
 module _ (n j : ℕ) (w : List ℕ) (h : j < n) (room : n + 8 ≤ length w) where
   rest : List ℕ
   rest = take (n - (j + 1)) (drop (j + 1) w) ++ drop (n + 8) w
@@ -38,14 +40,14 @@ module _ (n j : ℕ) (w : List ℕ) (h : j < n) (room : n + 8 ≤ length w) wher
       let g : j < length w = omega arith in
       rw (e, drop-cons w j 0, add-one)
 
-  pub read : getD (partway n (j + 1) w) j 0 ≡ getD w j 0
+  read : getD (partway n (j + 1) w) j 0 ≡ getD w j 0
   unfolding partway
   read =
       let g : j < length (take (j + 1 + 8) w) = simp length-take (omega arith) in
       let k : j < j + 1 + 8 = omega arith in
       List·getD-append (take (j + 1 + 8) w) _ 0 j g ∙ getD-take (j + 1 + 8) w j 0 k
 
-  pub step : set (partway n (j + 1) w) (j + 8) (getD w j 0) ≡ partway n j w
+  step : set (partway n (j + 1) w) (j + 8) (getD w j 0) ≡ partway n j w
   unfolding partway
   step =
       let g : j + 8 ≤ length w = omega arith in
@@ -53,12 +55,9 @@ module _ (n j : ℕ) (w : List ℕ) (h : j < n) (room : n + 8 ≤ length w) wher
       set-at (take (j + 8) w) _ rest _ (j + 8) (length-take-le (j + 8) w g) ∙
       ap (λ (l : List ℕ). take (j + 8) w ++ l) (sym first)
 
-pub length-partway : (n i : ℕ) (w : List ℕ) → i ≤ n → n + 8 ≤ length w → length (partway n i w) ≡ length w
-unfolding partway
-length-partway n i w h room = simp (length-append, length-take, length-drop) (omega arith)
-
-pub again : (n i : ℕ) (w w₀ : List ℕ) → 0 < i → i ≤ n → n + 8 ≤ length w₀ → w ≡ partway n i w₀ → set w (i - 1 + 8) (getD w (i - 1) 0) ≡ partway n (i - 1) w₀
-again n i w w₀ p q r e =
+-- One turn of the loop.
+pub shift-more : (n i : ℕ) (w w₀ : List ℕ) → 0 < i → i ≤ n → n + 8 ≤ length w₀ → w ≡ partway n i w₀ → set w (i - 1 + 8) (getD w (i - 1) 0) ≡ partway n (i - 1) w₀
+shift-more n i w w₀ p q r e =
     let s : i ≡ i - 1 + 1 = omega arith in
     let h : i - 1 < n = omega arith in
     let d : w ≡ partway n (i - 1 + 1) w₀ = e ∙ ap (λ (k : ℕ). partway n k w₀) s in

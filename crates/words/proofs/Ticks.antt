@@ -1,15 +1,15 @@
 -- What a stored tick leaves, and a table filled with one.
-use mathlib.Core.Path.{_≡_, refl, sym, ap, _∙_}
-use mathlib.Core.List.{List, [], _∷_, _++_}
+use mathlib.Core.Path.{_≡_, refl, ap, _∙_}
+use mathlib.Core.List.{List, _++_}
 use mathlib.Core.Logic.{_≢_}
 use Prim.Native.Nat.{ℕ, zero, suc, _+_, _-_, _*_, _≤_, _<_}
 use native.Mathlib.Omega.{arith}
 use native.Mathlib.Nat.{zero-add}
-use lib.ListN.{length, getD, set, take, drop, replicate, length-set, length-append, length-drop}
+use lib.ListN.{length, getD, set, drop, replicate, length-set, length-append, length-drop}
 use lib.Seq.{getD-set-same, getD-set-other, getD-append-add, getD-drop, sets, sets-eq}
 use Rattle.types.specs.declared.SimTime.{SimTime}
 use Rattle.types.specs.Value.{halves, value}
-use Rattle.words.specs.Words.{tab, tickAt, horizonsOf, putTick, repeated, filled}
+use Rattle.words.specs.Words.{tickAt, horizonsOf, putTick, repeated, filled}
 use Rattle.words.proofs.Tab.{tab-cong, tab-same}
 
 -- Equal words are equal ticks.
