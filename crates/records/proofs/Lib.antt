@@ -1,0 +1,6 @@
+pub mod Stored
+pub mod Compared
+pub mod Placing
+pub mod Moved
+pub mod Gathered
+pub mod Samples

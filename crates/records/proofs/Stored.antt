@@ -1,0 +1,145 @@
+-- Records and edges in flat words: equal words say equal records, and what a store leaves of the others.
+use mathlib.Core.Path.{_≡_, sym, ap, _∙_}
+use mathlib.Core.Logic.{_≢_, ⊎-elim}
+use mathlib.Core.List.{List, [], _∷_, _++_, append-assoc}
+use Prim.Native.Nat.{ℕ, suc, _+_, _-_, _*_, _≤_, _<_}
+use native.Mathlib.Omega.{arith}
+use native.Mathlib.Nat.{add-zero}
+use lib.ListN.{length, getD, set, take, drop, length-append, length-take, length-drop, List·getD-append}
+use lib.Seq.{getD-take, getD-drop, getD-append-add, length-take-le, sets-eq}
+use Rattle.types.specs.declared.SimTime.{SimTime}
+use Rattle.types.specs.Value.{value}
+use Rattle.types.proofs.Halves.{lt-or-ge}
+use Rattle.words.specs.Words.{tickAt, putTick, cleared}
+use Rattle.words.proofs.Tab.{tab-cong, length-tab, tab-push}
+use Rattle.words.proofs.Ticks.{tick-cong, tick-same, word-other}
+use Rattle.words.proofs.Places.{clear-front}
+use Rattle.records.specs.declared.Record.{Record}
+use Rattle.records.specs.Records.{payloadOf, eventOf, recordIn, wordsOf, putRecord, eventAt, eventsOf, edgeAt, edgesOf}
+
+pub length-payload : (len upper lower : ℕ) → length (payloadOf len upper lower) ≡ len
+unfolding payloadOf
+length-payload len upper lower = length-tab _ 0 len
+
+-- Equal words are equal records.
+pub record-cong : (u w : List ℕ) (a b : ℕ) → ((k : ℕ) → k < 8 → getD u (a + k) 0 ≡ getD w (b + k) 0) → recordIn u a ≡ recordIn w b
+unfolding recordIn
+record-cong u w a b h =
+    let d : getD u a 0 ≡ getD w b 0 = simp add-zero at (h 0 (omega arith)) in
+    λ i. record {
+      dst = d i;
+      hi = h 1 (omega arith) i;
+      lo = h 2 (omega arith) i;
+      src = h 3 (omega arith) i;
+      seq = h 4 (omega arith) i;
+      len = h 5 (omega arith) i;
+      p0 = h 6 (omega arith) i;
+      p1 = h 7 (omega arith) i;
+    }
+
+pub event-cong : (u w : List ℕ) (i j : ℕ) → ((k : ℕ) → k < 8 → getD u (8 * i + k) 0 ≡ getD w (8 * j + k) 0) → eventAt u i ≡ eventAt w j
+unfolding eventAt
+event-cong u w i j h = ap eventOf (record-cong u w (8 * i) (8 * j) h)
+
+pub events-cong : (n : ℕ) (u w : List ℕ) → ((k : ℕ) → k < 8 * n → getD u k 0 ≡ getD w k 0) → eventsOf n u ≡ eventsOf n w
+events-cong n u w h = tab-cong _ _ 0 n (λ i a b. event-cong u w i i (λ k c. h (8 * i + k) (omega arith)))
+
+pub edge-cong : (u w : List ℕ) (i j : ℕ) → ((k : ℕ) → k < 4 → getD u (4 * i + k) 0 ≡ getD w (4 * j + k) 0) → edgeAt u i ≡ edgeAt w j
+unfolding edgeAt
+edge-cong u w i j h =
+    let s : getD u (4 * i) 0 ≡ getD w (4 * j) 0 = simp add-zero at (h 0 (omega arith)) in
+    let a : 4 * i + 2 + 1 ≡ 4 * i + 3 = omega arith in
+    let b : 4 * j + 2 + 1 ≡ 4 * j + 3 = omega arith in
+    let t : tickAt u (4 * i + 2) ≡ tickAt w (4 * j + 2) = tick-cong u w (4 * i + 2) (4 * j + 2) (h 2 (omega arith)) (rw (a, b) (h 3 (omega arith))) in
+    λ k. record { source = s k; destination = h 1 (omega arith) k; bound = t k }
+
+pub edges-cong : (n : ℕ) (u w : List ℕ) → ((k : ℕ) → k < 4 * n → getD u k 0 ≡ getD w k 0) → edgesOf n u ≡ edgesOf n w
+edges-cong n u w h = tab-cong _ _ 0 n (λ i a b. edge-cong u w i i (λ k c. h (4 * i + k) (omega arith)))
+
+-- An event's tick where it stands.
+pub event-tick : (w : List ℕ) (i : ℕ) → eventAt w i .tick ≡ tickAt w (8 * i + 1)
+unfolding eventAt recordIn tickAt
+event-tick w i = let e : 8 * i + 1 + 1 ≡ 8 * i + 2 = omega arith in rw e
+
+-- A record stored.
+module _ (w : List ℕ) (at : ℕ) (r : Record) (fits : at + 8 ≤ length w) where
+  front : length (take at w) ≡ at
+  front = let h : at ≤ length w = omega arith in length-take-le at w h
+
+  pub length-record : length (putRecord w at r) ≡ length w
+  unfolding putRecord
+  length-record = simp (length-append, length-take, length-drop) (omega arith)
+
+  inside : (j : ℕ) → getD (putRecord w at r) (at + j) 0 ≡ getD (wordsOf r ++ drop (at + 8) w) j 0
+  unfolding putRecord
+  inside j = ap (λ (k : ℕ). getD (take at w ++ (wordsOf r ++ drop (at + 8) w)) (k + j) 0) (sym front) ∙ getD-append-add (take at w) _ j 0
+
+  pub record-same : recordIn (putRecord w at r) at ≡ r
+  unfolding recordIn
+  record-same =
+      let d : getD (putRecord w at r) at 0 ≡ r .dst = ap (λ (k : ℕ). getD (putRecord w at r) k 0) (sym (add-zero at)) ∙ inside 0 in
+      λ i. record { dst = d i; hi = inside 1 i; lo = inside 2 i; src = inside 3 i; seq = inside 4 i; len = inside 5 i; p0 = inside 6 i; p1 = inside 7 i }
+
+  pub word-below : (k : ℕ) → k < at → getD (putRecord w at r) k 0 ≡ getD w k 0
+  unfolding putRecord
+  word-below k h =
+      let g : k < length (take at w) = rw front h in
+      List·getD-append (take at w) _ 0 k g ∙ getD-take at w k 0 h
+
+  above : (k : ℕ) → getD (putRecord w at r) (at + (8 + k)) 0 ≡ getD w (at + 8 + k) 0
+  above k = inside (8 + k) ∙ getD-append-add (wordsOf r) (drop (at + 8) w) k 0 ∙ getD-drop (at + 8) w k 0
+
+  pub word-past : (k : ℕ) → at + 8 ≤ k → getD (putRecord w at r) k 0 ≡ getD w k 0
+  word-past k h =
+      let j = k - (at + 8) in
+      let e : at + (8 + j) ≡ k = omega arith in
+      let f : at + 8 + j ≡ k = omega arith in
+      rw (e, f) at (above j)
+
+-- The same of a list of events.
+pub event-same : (w : List ℕ) (i : ℕ) (r : Record) → 8 * i + 8 ≤ length w → eventAt (putRecord w (8 * i) r) i ≡ eventOf r
+unfolding eventAt
+event-same w i r h = ap eventOf (record-same w (8 * i) r h)
+
+pub event-other : (w : List ℕ) (i k : ℕ) (r : Record) → 8 * i + 8 ≤ length w → k ≢ i → eventAt (putRecord w (8 * i) r) k ≡ eventAt w k
+event-other w i k r h ne =
+    ⊎-elim
+    (λ (b : k < i). event-cong _ w k k (λ j l. word-below w (8 * i) r h (8 * k + j) (omega arith)))
+    (λ (b : i ≤ k). let c : i < k = omega (arith, ne) in event-cong _ w k k (λ j l. word-past w (8 * i) r h (8 * k + j) (omega arith)))
+    (lt-or-ge k i)
+
+-- A record stored behind the last event, and words behind the events set to zero.
+pub events-push : (n : ℕ) (w : List ℕ) (r : Record) → 8 * n + 8 ≤ length w → eventsOf (n + 1) (putRecord w (8 * n) r) ≡ eventsOf n w ++ (eventOf r ∷ [])
+events-push n w r h =
+    let a : eventsOf n (putRecord w (8 * n) r) ≡ eventsOf n w = events-cong n _ w (λ k l. word-below w (8 * n) r h k l) in
+    tab-push (eventAt (putRecord w (8 * n) r)) n ∙ rw (a, event-same w n r h)
+
+pub events-cleared : (n from to : ℕ) (w : List ℕ) → 8 * n ≤ from → from ≤ to → to ≤ length w → eventsOf n (cleared from to w) ≡ eventsOf n w
+events-cleared n from to w h a b = events-cong n _ w (λ k l. clear-front from to w a b k (omega arith))
+
+-- A bound stored: its edge has it, and the others stay.
+pub bound-same : (w : List ℕ) (i : ℕ) (t : SimTime) → 4 * i + 4 ≤ length w
+    → edgeAt (putTick w (4 * i + 2) t) i ≡ record { source = edgeAt w i .source; destination = edgeAt w i .destination; bound = value t }
+unfolding edgeAt
+bound-same w i t h = λ k. record {
+  source = word-other w (4 * i + 2) t (4 * i) (λ e. omega arith) (λ e. omega arith) k;
+  destination = word-other w (4 * i + 2) t (4 * i + 1) (λ e. omega arith) (λ e. omega arith) k;
+  bound = tick-same w (4 * i + 2) t (omega arith) k;
+}
+
+pub bound-other : (w : List ℕ) (i k : ℕ) (t : SimTime) → k ≢ i → edgeAt (putTick w (4 * i + 2) t) k ≡ edgeAt w k
+bound-other w i k t ne = edge-cong _ w k k (λ j l. word-other w (4 * i + 2) t (4 * k + j) (λ e. ne (omega arith)) (λ e. ne (omega arith)))
+
+-- Eight stores.
+pub eight-stores : (w : List ℕ) (at : ℕ) (r : Record) → at + 8 ≤ length w →
+    set (set (set (set (set (set (set (set w at (r .dst)) (at + 1) (r .hi)) (at + 2) (r .lo)) (at + 3) (r .src)) (at + 4) (r .seq)) (at + 5) (r .len)) (at + 6) (r .p0)) (at + 7) (r .p1) ≡ putRecord w at r
+unfolding putRecord
+eight-stores w at r h =
+    let e₁ : at + 1 ≡ suc at = omega arith in
+    let e₂ : at + 2 ≡ suc (suc at) = omega arith in
+    let e₃ : at + 3 ≡ suc (suc (suc at)) = omega arith in
+    let e₄ : at + 4 ≡ suc (suc (suc (suc at))) = omega arith in
+    let e₅ : at + 5 ≡ suc (suc (suc (suc (suc at)))) = omega arith in
+    let e₆ : at + 6 ≡ suc (suc (suc (suc (suc (suc at))))) = omega arith in
+    let e₇ : at + 7 ≡ suc (suc (suc (suc (suc (suc (suc at)))))) = omega arith in
+    rw (e₁, e₂, e₃, e₄, e₅, e₆, e₇) (sets-eq (wordsOf r) w at h ∙ append-assoc (take at w) (wordsOf r) (drop (at + 8) w))
