@@ -1,0 +1,45 @@
+-- The pass over the words takes what the rule takes.
+use mathlib.Core.Path.{_≡_, sym, _∙_}
+use mathlib.Core.Bool.{true}
+use mathlib.Core.List.{List, [], _∷_}
+use Prim.Native.Nat.{ℕ, _+_, _≤_, _<_}
+use native.Mathlib.Omega.{arith}
+use Rattle.rules.specs.Base.{upTo, rising}
+use Rattle.rules.specs.State.{Event, Edge}
+use Rattle.rules.specs.Pending.{before}
+use Rattle.rules.specs.Frontiers.{safe}
+use Rattle.rules.specs.Step.{Taken, take}
+use Rattle.rules.proofs.Lists.{All, all-map}
+use Rattle.rules.proofs.Order.{Pairs, Before, test-before, rising-pairs}
+use Rattle.records.specs.Records.{eventsOf}
+use Rattle.taking.specs.Sweep.{sweep}
+use Rattle.taking.specs.Passing.{frontAt, Took}
+use Rattle.taking.specs.declared.Sieve.{Sieve}
+use Rattle.taking.proofs.Sweep.{Sorted, sweep-is, sweep-cong}
+
+pairs-sorted : (q : List Event) → Pairs (λ (e f : Event). e .destination ≤ f .destination) q → Sorted q
+pairs-sorted [] a = tt
+pairs-sorted (e ∷ q) a = (a .0, pairs-sorted q (a .1))
+
+-- Events in order stand by destination.
+pub stand-by : (q : List Event) → rising before q ≡ true → Sorted q
+stand-by q h = pairs-sorted q (rising-pairs before (λ (e f : Event). e .destination ≤ f .destination) (λ e f t. test-before e f t .destinations) (λ e f g a b. omega arith) q h)
+
+-- The frontiers of processes 0 to n - 1 are in the table.
+abbrev pub Fronts : List Edge → ℕ → ℕ → List ℕ → Type 0
+Fronts es H n table = (p : ℕ) → p < n → frontAt table p ≡ safe es H p
+
+module _ (es : List Edge) (H n : ℕ) (table : List ℕ) (fronts : Fronts es H n table) (room : ℕ) where
+  pub swept : (q : List Event) → rising before q ≡ true → All (λ (e : Event). e .destination < n) q → sweep (frontAt table) room 0 q ≡ take es H (upTo n) room q
+  unfolding upTo
+  swept q o a =
+      let b : All (λ (e : Event). e .destination < 0 + n) q = all-map (λ (e : Event). e .destination < n) (λ (e : Event). e .destination < 0 + n) (λ e h. omega arith) q a in
+      sweep-cong (frontAt table) (λ p. safe es H p) n room 0 q fronts a ∙ sym (sweep-is es H n 0 room q (stand-by q o) b)
+
+  -- What the pass leaves is what the rule takes and leaves.
+  pub took-rule : (count : ℕ) (w b u c : List ℕ) (r : Sieve) → Took count table room w b u c r → rising before (eventsOf count w) ≡ true → All (λ (e : Event). e .destination < n) (eventsOf count w)
+      → record { events = eventsOf (r .taken) c; left = eventsOf (r .kept) u } ≡ take es H (upTo n) room (eventsOf count w)
+  took-rule count w b u c r t o a =
+      let s : Taken = sweep (frontAt table) room 0 (eventsOf count w) in
+      let e : record { events = eventsOf (r .taken) c; left = eventsOf (r .kept) u } ≡ s = λ i. record { events = t .events i; left = t .left i } in
+      e ∙ swept (eventsOf count w) o a
