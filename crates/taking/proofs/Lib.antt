@@ -1,1 +1,3 @@
 pub mod Sweep
+pub mod Turns
+pub mod Taken

@@ -1,0 +1,92 @@
+-- The pass over the words takes what the rule takes.
+use mathlib.Core.Path.{_≡_, sym, ap, _∙_}
+use mathlib.Core.Bool.{true}
+use mathlib.Core.List.{List, [], _∷_}
+use Prim.Native.Nat.{ℕ, _+_, _-_, _≤_, _<_}
+use native.Mathlib.Omega.{arith}
+use lib.ListN.{length, drop, length-drop}
+use lib.Seq.{getD-drop, ext-getD}
+use Rattle.rules.specs.Base.{upTo, rising}
+use Rattle.rules.specs.State.{Event, Edge}
+use Rattle.rules.specs.Pending.{before}
+use Rattle.rules.specs.Frontiers.{safe}
+use Rattle.rules.specs.Step.{Taken, take}
+use Rattle.rules.proofs.Tests.{by-test}
+use Rattle.rules.proofs.Lists.{All, all-map}
+use Rattle.rules.proofs.Order.{Pairs, Before, test-before, rising-pairs}
+use Rattle.words.proofs.Tab.{length-tab}
+use Rattle.records.specs.Records.{eventAt, eventsOf}
+use Rattle.records.proofs.Placing.{all-at}
+use Rattle.taking.specs.Sweep.{seenBy, sweep}
+use Rattle.taking.specs.Passing.{frontAt, Owners, SameFrom, Took}
+use Rattle.taking.specs.declared.Sieve.{Sieve}
+use Rattle.taking.proofs.Sweep.{Sorted, takes-means, sweep-is, sweep-cong}
+
+pairs-sorted : (q : List Event) → Pairs (λ (e f : Event). e .destination ≤ f .destination) q → Sorted q
+pairs-sorted [] a = tt
+pairs-sorted (e ∷ q) a = (a .0, pairs-sorted q (a .1))
+
+-- Events in order stand by destination.
+pub stand-by : (q : List Event) → rising before q ≡ true → Sorted q
+stand-by q h = pairs-sorted q (rising-pairs before (λ (e f : Event). e .destination ≤ f .destination) (λ e f t. test-before e f t .destinations) (λ e f g a b. omega arith) q h)
+
+-- The frontiers of processes 0 to n - 1 are in the table.
+abbrev pub Fronts : List Edge → ℕ → ℕ → List ℕ → Type 0
+Fronts es H n table = (p : ℕ) → p < n → frontAt table p ≡ safe es H p
+
+module _ (es : List Edge) (H n : ℕ) (table : List ℕ) (fronts : Fronts es H n table) (room : ℕ) where
+  pub swept : (q : List Event) → rising before q ≡ true → All (λ (e : Event). e .destination < n) q → sweep (frontAt table) room 0 q ≡ take es H (upTo n) room q
+  unfolding upTo
+  swept q o a =
+      let b : All (λ (e : Event). e .destination < 0 + n) q = all-map (λ (e : Event). e .destination < n) (λ (e : Event). e .destination < 0 + n) (λ e h. omega arith) q a in
+      sweep-cong (frontAt table) (λ p. safe es H p) n room 0 q fronts a ∙ sym (sweep-is es H n 0 room q (stand-by q o) b)
+
+  -- What the pass leaves is what the rule takes and leaves.
+  pub took-rule : (count : ℕ) (w b u c : List ℕ) (r : Sieve) → Took count table room w b u c r → rising before (eventsOf count w) ≡ true → All (λ (e : Event). e .destination < n) (eventsOf count w)
+      → record { events = eventsOf (r .taken) c; left = eventsOf (r .kept) u } ≡ take es H (upTo n) room (eventsOf count w)
+  took-rule count w b u c r t o a =
+      let s : Taken = sweep (frontAt table) room 0 (eventsOf count w) in
+      let e : record { events = eventsOf (r .taken) c; left = eventsOf (r .kept) u } ≡ s = λ i. record { events = t .events i; left = t .left i } in
+      e ∙ swept (eventsOf count w) o a
+
+-- Where destinations are below n, each event's process has a place in a table.
+pub owners : (count n : ℕ) (w : List ℕ) → n ≤ 64 → All (λ (e : Event). e .destination < n) (eventsOf count w) → Owners count w
+unfolding Owners
+owners count n w h a i l =
+    let d : eventAt w i .destination < n = all-at (λ (e : Event). e .destination < n) (eventAt w) 0 count i a (omega arith) (omega arith) in
+    omega arith
+
+-- No more are taken than there is room for, and no more than there are processes.
+few : (front : ℕ → ℕ) (room seen : ℕ) (q : List Event) → length (sweep front room seen q .events) ≤ room
+unfolding sweep
+few front room seen [] = omega arith
+few front room seen (e ∷ q) =
+    by-test (λ (t : Taken). length (t .events) ≤ room)
+    (λ y. omega (arith, few front (room - 1) (seenBy seen e) q, takes-means front room seen e y .1))
+    (λ y. few front room (seenBy seen e) q)
+
+each : (front : ℕ → ℕ) (n room seen : ℕ) (q : List Event) → seen ≤ n → All (λ (e : Event). e .destination < n) q → length (sweep front room seen q .events) + seen ≤ n
+unfolding sweep
+each front n room seen [] h a = omega arith
+each front n room seen (e ∷ q) h a =
+    let d : seenBy seen e ≤ n = omega (arith, a .0) in
+    by-test (λ (t : Taken). length (t .events) + seen ≤ n)
+    (λ y. omega (arith, each front n (room - 1) (seenBy seen e) q d (a .1), takes-means front room seen e y .0))
+    (λ y. omega (arith, each front n room (seenBy seen e) q d (a .1)))
+
+module _ (count : ℕ) (table : List ℕ) (room : ℕ) (w b u c : List ℕ) (r : Sieve) (t : Took count table room w b u c r) where
+  taken-is : r .taken ≡ length (sweep (frontAt table) room 0 (eventsOf count w) .events)
+  taken-is = sym (length-tab (eventAt c) 0 (r .taken)) ∙ ap length (t .events)
+
+  pub took-few : r .taken ≤ room
+  took-few = omega (arith, taken-is, few (frontAt table) room 0 (eventsOf count w))
+
+  pub took-each : (n : ℕ) → All (λ (e : Event). e .destination < n) (eventsOf count w) → r .taken ≤ n
+  took-each n a = omega (arith, taken-is, each (frontAt table) n room 0 (eventsOf count w) (omega arith) a)
+
+-- Words that are the same from a place on, as lists.
+pub same-drop : (k : ℕ) (u w : List ℕ) → length u ≡ length w → SameFrom k u w → drop k u ≡ drop k w
+unfolding SameFrom
+same-drop k u w e s =
+    let l : length (drop k u) ≡ length (drop k w) = simp length-drop (omega arith) in
+    ext-getD 0 (drop k u) (drop k w) l (λ i h. getD-drop k u i 0 ∙ s (k + i) (omega arith) ∙ sym (getD-drop k w i 0))

@@ -1,0 +1,53 @@
+use borrow.Author.Needs.{needs}
+use native.Mathlib.Omega.{arith}
+use Prim.Native.Nat.{_-_}
+use mathlib.Core.Path.{_≡_}
+use lib.ListN.{length}
+use Rattle.taking.proofs.Turns.{Sifting, sifting-start, sifting-more, sifting-end, siftable-at}
+use Rattle.taking.proofs.take_batch.Statement.{statement}
+use Rattle.taking.proofs.take_batch.Tie as tie
+
+abbrev Inv-loop : tie.InvT-loop
+Inv-loop pending₀ count safe room batch₀ s₀ i₀ pending batch s i = (length pending ≡ 4096) × (length batch ≡ 512) × Sifting count safe room pending₀ batch₀ pending batch (s .kept) (s .taken) (s .room) (s .seen) i
+
+abbrev μ-loop : tie.MeasureT-loop
+μ-loop pending₀ count safe room batch₀ s₀ i₀ pending batch s i = count - i
+
+loop-holds : tie.Need-loop-holds Inv-loop μ-loop
+loop-holds c = (search needs, search needs, sifting-start _ _ _ _ _)
+
+sift-requires : tie.Need-sift-requires Inv-loop μ-loop
+sift-requires c κs = search (siftable-at, needs)
+
+add-i : tie.Need-add-i Inv-loop μ-loop
+add-i c = search needs
+
+loop-less : tie.Need-loop-less Inv-loop μ-loop
+loop-less c = search needs
+
+loop-again : tie.Need-loop-again Inv-loop μ-loop
+loop-again c = (search needs, search needs, search (sifting-more, needs))
+
+same-length : tie.Need-same-length Inv-loop μ-loop
+same-length c = search needs
+
+same-length-2 : tie.Need-same-length-2 Inv-loop μ-loop
+same-length-2 c = search needs
+
+returns : tie.Need-returns Inv-loop μ-loop
+returns c = search (sifting-end, needs)
+
+pub take-batch-spec : {M : Type 1} → statement M
+take-batch-spec =
+    tie.close
+    (tie.spec
+    Inv-loop
+    μ-loop
+    loop-holds
+    sift-requires
+    add-i
+    loop-less
+    loop-again
+    same-length
+    same-length-2
+    returns)

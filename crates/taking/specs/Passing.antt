@@ -1,0 +1,51 @@
+-- What the pass that takes the batch asks and leaves.
+use mathlib.Core.Path.{_≡_}
+use mathlib.Core.Logic.{_≢_}
+use mathlib.Core.Bool.{true, false}
+use mathlib.Core.List.{List}
+use Prim.Native.Nat.{ℕ, _+_, _-_, _*_, _≤_, _<_}
+use lib.ListN.{length, getD}
+use Rattle.rules.specs.State.{Event}
+use Rattle.rules.specs.Step.{Taken}
+use Rattle.words.specs.Words.{tickAt}
+use Rattle.records.specs.Records.{eventAt, eventsOf}
+use Rattle.taking.specs.Sweep.{takes, seenBy, sweep}
+use Rattle.taking.specs.declared.Sieve.{Sieve}
+
+-- The frontier of process p in a table of ticks.
+abbrev pub frontAt : List ℕ → ℕ → ℕ
+frontAt safe p = tickAt safe (2 * p)
+
+-- Every event's process has a place in a table.
+unfoldable pub Owners : ℕ → List ℕ → Type 0
+Owners n w = (i : ℕ) → i < n → eventAt w i .destination < 64
+
+-- Words u are those of w from word k on.
+unfoldable pub SameFrom : ℕ → List ℕ → List ℕ → Type 0
+SameFrom k u w = (j : ℕ) → k ≤ j → getD u j 0 ≡ getD w j 0
+
+-- Before event i.
+pub record Siftable (i : ℕ) (w safe b : List ℕ) (s : Sieve) : Type 0 where
+  pub index : i < 512
+  pub kept : s .kept ≤ i
+  pub taken : s .taken ≤ s .seen
+  pub owner : eventAt w i .destination < 64
+  pub words : length w ≡ 4096
+  pub table : length safe ≡ 128
+  pub places : length b ≡ 512
+
+-- After event i of w: the pending words are u and the batch's are c.
+pub record Sifted (i : ℕ) (safe w b u c : List ℕ) (s r : Sieve) : Type 0 where
+  pub seen : r .seen ≡ seenBy (s .seen) (eventAt w i)
+  pub goes : takes (frontAt safe) (s .room) (s .seen) (eventAt w i) ≡ true
+      → (u ≡ w) × (r .kept ≡ s .kept) × (r .taken ≡ s .taken + 1) × (r .room ≡ s .room - 1) × (eventAt c (s .taken) ≡ eventAt w i) × ((k : ℕ) → k ≢ s .taken → eventAt c k ≡ eventAt b k) × SameFrom (8 * s .taken + 8) c b
+  pub stays : takes (frontAt safe) (s .room) (s .seen) (eventAt w i) ≡ false
+      → (c ≡ b) × (r .kept ≡ s .kept + 1) × (r .taken ≡ s .taken) × (r .room ≡ s .room) × (eventAt u (s .kept) ≡ eventAt w i) × ((k : ℕ) → k ≢ s .kept → eventAt u k ≡ eventAt w k) × SameFrom (8 * s .kept + 8) u w
+
+-- The pass over n events of w, with a batch of words b before it: u and c are the words after it.
+pub record Took (n : ℕ) (safe : List ℕ) (room : ℕ) (w b u c : List ℕ) (r : Sieve) : Type 0 where
+  pub events : eventsOf (r .taken) c ≡ sweep (frontAt safe) room 0 (eventsOf n w) .events
+  pub left : eventsOf (r .kept) u ≡ sweep (frontAt safe) room 0 (eventsOf n w) .left
+  pub counts : r .kept + r .taken ≡ n
+  pub beyond : SameFrom (8 * n) u w
+  pub behind : SameFrom (8 * r .taken) c b
