@@ -1,0 +1,6 @@
+pub mod Pairs
+pub mod Order
+pub mod Merging
+pub mod Halves
+pub mod Twins
+pub mod Laying
