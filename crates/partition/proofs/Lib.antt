@@ -1,6 +1,1 @@
-pub mod Pairs
-pub mod Order
-pub mod Merging
-pub mod Halves
-pub mod Twins
 pub mod Laying

@@ -1,3 +1,1 @@
-pub mod Entities
-pub mod Merge
 pub mod Planned
