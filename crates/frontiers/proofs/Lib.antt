@@ -1,0 +1,4 @@
+pub mod Table
+pub mod Falling
+pub mod Noting
+pub mod Capped

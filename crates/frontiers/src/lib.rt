@@ -1,0 +1,78 @@
+// Frontiers, first pending ticks and what rises in an advance, each in one pass over flat words.
+//
+// A table holds a tick for each of 64 processes, two words each. These are leaves: each asks that
+// the words it touches are there.
+use types::Added;
+use types::SimDuration;
+use types::SimTime;
+ghost use mathlib.Core.Path.{_≡_};
+ghost use Prim.Native.Nat.{_+_, _*_, _≤_};
+ghost use lib.ListN.{length};
+ghost use Rattle.types.specs.Value.{value, span};
+ghost use Rattle.records.specs.Records.{edgeAt, edgesOf, eventAt, eventsOf};
+ghost use Rattle.frontiers.specs.Tables.{Fronts, Lowered, Firsts, Noted, capped};
+
+// safe(p) of each process: the least of H and the bounds of the edges into it.
+pub fn frontiers(edges: &[u64], count: usize, top: SimTime, safe: &mut [u64])
+    requires { ⌜ (4 * count ≤ length (now edges)) × (length (now safe) ≡ 128) ⌝ }
+    ensures { λ _. ⌜ Fronts (edgesOf count (now (edges .entry))) (value top) (now (safe .exit)) ⌝ }
+{
+    words::fill(safe, 64, top);
+    let mut i = count;
+    while 0 < i {
+        i -= 1;
+        lower(edges, i, safe);
+    }
+}
+
+// The frontier of edge i's destination falls to the edge's bound.
+fn lower(edges: &[u64], i: usize, safe: &mut [u64])
+    requires { ⌜ (4 * i + 4 ≤ length (now edges)) × (length (now safe) ≡ 128) ⌝ }
+    ensures { λ _. ⌜ Lowered (edgeAt (now (edges .entry)) i) (now (safe .entry)) (now (safe .exit)) ⌝ }
+{
+    let to = edges[4 * i + 1];
+    if to < 64 {
+        let at = (2 * to) as usize;
+        let bound = words::tick_in(edges, 4 * i + 2);
+        let old = words::tick_in(safe, at);
+        let new = bound.min(old);
+        words::put_tick(safe, at, new);
+    }
+}
+
+// The first pending tick of each process, or `none`. From the end: the first is what stays.
+pub fn first_ticks(pending: &[u64], count: usize, none: SimTime, first: &mut [u64])
+    requires { ⌜ (8 * count ≤ length (now pending)) × (length (now first) ≡ 128) ⌝ }
+    ensures { λ _. ⌜ Firsts (eventsOf count (now (pending .entry))) (value none) (now (first .exit)) ⌝ }
+{
+    words::fill(first, 64, none);
+    let mut i = count;
+    while 0 < i {
+        i -= 1;
+        note(pending, i, first);
+    }
+}
+
+// The tick of event i is its destination's.
+fn note(pending: &[u64], i: usize, first: &mut [u64])
+    requires { ⌜ (8 * i + 8 ≤ length (now pending)) × (length (now first) ≡ 128) ⌝ }
+    ensures { λ _. ⌜ Noted (eventAt (now (pending .entry)) i) (now (first .entry)) (now (first .exit)) ⌝ }
+{
+    let to = pending[8 * i];
+    if to < 64 {
+        let at = (2 * to) as usize;
+        let t = words::tick_in(pending, 8 * i + 1);
+        words::put_tick(first, at, t);
+    }
+}
+
+// What a bound rises to: the lesser of H and aim + L, or H on overflow.
+pub fn raised_bound(aim: SimTime, lookahead: SimDuration, top: SimTime) -> SimTime
+    ensures { λ r. ⌜ value r ≡ capped (value top) (span lookahead) (value aim) ⌝ }
+{
+    let sum = aim.checked_add(lookahead);
+    match sum {
+        Added::Sum(t) => top.min(t),
+        Added::Overflow => top,
+    }
+}
