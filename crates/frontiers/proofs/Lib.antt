@@ -2,3 +2,5 @@ pub mod Table
 pub mod Falling
 pub mod Noting
 pub mod Capped
+pub mod Rising
+pub mod Lifting

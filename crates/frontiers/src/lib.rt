@@ -6,11 +6,12 @@ use types::Added;
 use types::SimDuration;
 use types::SimTime;
 ghost use mathlib.Core.Path.{_≡_};
-ghost use Prim.Native.Nat.{_+_, _*_, _≤_};
-ghost use lib.ListN.{length};
+ghost use Prim.Native.Nat.{_+_, _*_, _<_, _≤_};
+ghost use lib.ListN.{length, getD};
 ghost use Rattle.types.specs.Value.{value, span};
 ghost use Rattle.records.specs.Records.{edgeAt, edgesOf, eventAt, eventsOf};
 ghost use Rattle.frontiers.specs.Tables.{Fronts, Lowered, Firsts, Noted, capped};
+ghost use Rattle.frontiers.specs.Rises.{RaisedHorizon, RaisedHorizons, RaisedEdge, RaisedEdges, Sources};
 
 // safe(p) of each process: the least of H and the bounds of the edges into it.
 pub fn frontiers(edges: &[u64], count: usize, top: SimTime, safe: &mut [u64])
@@ -75,4 +76,77 @@ pub fn raised_bound(aim: SimTime, lookahead: SimDuration, top: SimTime) -> SimTi
         Added::Sum(t) => top.min(t),
         Added::Overflow => top,
     }
+}
+
+// Each local horizon rises to its aim; whether one did.
+pub fn raise_horizons(horizons: &mut [u64], n: usize, aims: &[u64]) -> bool
+    requires { ⌜ (n ≤ 64) × (2 * n ≤ length (now horizons)) × (length (now aims) ≡ 128) ⌝ }
+    ensures { λ r. ⌜ RaisedHorizons n (now (aims .entry)) (now (horizons .entry)) (now (horizons .exit)) r ⌝ }
+{
+    let mut rose = false;
+    let mut i = n;
+    while 0 < i {
+        i -= 1;
+        if raise_horizon(horizons, i, aims) {
+            rose = true;
+        }
+    }
+    rose
+}
+
+// The local horizon of process i rises to its aim; whether it did.
+fn raise_horizon(horizons: &mut [u64], i: usize, aims: &[u64]) -> bool
+    requires { ⌜ (i < 64) × (2 * i + 2 ≤ length (now horizons)) × (length (now aims) ≡ 128) ⌝ }
+    ensures { λ r. ⌜ RaisedHorizon i (now (aims .entry)) (now (horizons .entry)) (now (horizons .exit)) r ⌝ }
+{
+    let old = words::tick_in(horizons, 2 * i);
+    let to = words::tick_in(aims, 2 * i);
+    if old.lt(to) {
+        words::put_tick(horizons, 2 * i, to);
+        return true;
+    }
+    false
+}
+
+// Each bound rises to the aim of its source and L, at most H; how many did.
+pub fn raise_edges(
+    edges: &mut [u64],
+    count: usize,
+    aims: &[u64],
+    top: SimTime,
+    lookahead: SimDuration,
+) -> usize
+    requires { ⌜ (count ≤ 512) × (4 * count ≤ length (now edges)) × (length (now aims) ≡ 128) × Sources count (now edges) ⌝ }
+    ensures { λ r. ⌜ RaisedEdges count (now (aims .entry)) (value top) (span lookahead) (now (edges .entry)) (now (edges .exit)) r ⌝ }
+{
+    let mut raised: usize = 0;
+    let mut i = count;
+    while 0 < i {
+        i -= 1;
+        raised += raise_edge(edges, i, aims, top, lookahead);
+    }
+    raised
+}
+
+// The bound of edge i rises, or stays; 1 if it rose.
+fn raise_edge(
+    edges: &mut [u64],
+    i: usize,
+    aims: &[u64],
+    top: SimTime,
+    lookahead: SimDuration,
+) -> usize
+    requires { ⌜ (4 * i + 4 ≤ length (now edges)) × (length (now aims) ≡ 128) × (getD (now edges) (4 * i) 0 < 64) ⌝ }
+    ensures { λ r. ⌜ RaisedEdge i (now (aims .entry)) (value top) (span lookahead) (now (edges .entry)) (now (edges .exit)) r ⌝ }
+{
+    let from = edges[4 * i];
+    let at = (2 * from) as usize;
+    let aim = words::tick_in(aims, at);
+    let to = raised_bound(aim, lookahead, top);
+    let old = words::tick_in(edges, 4 * i + 2);
+    if old.lt(to) {
+        words::put_tick(edges, 4 * i + 2, to);
+        return 1;
+    }
+    0
 }
