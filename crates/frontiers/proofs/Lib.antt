@@ -4,3 +4,4 @@ pub mod Noting
 pub mod Capped
 pub mod Rising
 pub mod Lifting
+pub mod Gathered

@@ -2,14 +2,14 @@
 use mathlib.Core.Path.{_≡_}
 use mathlib.Core.Logic.{_≢_}
 use mathlib.Core.Bool.{Bool}
-use mathlib.Core.List.{List}
-use Prim.Native.Nat.{ℕ, _<_, max}
+use mathlib.Core.List.{List, map}
+use Prim.Native.Nat.{ℕ, _-_, _<_, max}
 use lib.Dec.{ltb}
 use Rattle.words.specs.Words.{horizonsOf}
 use Rattle.records.specs.Records.{edgeAt, edgesOf}
 use Rattle.rules.specs.Base.{if_then_else_}
 use Rattle.rules.specs.State.{Edge, State}
-use Rattle.rules.specs.Refresh.{raised}
+use Rattle.rules.specs.Refresh.{least, raised}
 use Rattle.rules.specs.Step.{aim, raisedEdges, countRaised, anyRaised}
 use Rattle.frontiers.specs.Tables.{entry, capped}
 
@@ -46,3 +46,7 @@ pub record RaisedEdges (n : ℕ) (aims : List ℕ) (H L : ℕ) (w u : List ℕ) 
 -- Every source has a place in a table.
 unfoldable pub Sources : ℕ → List ℕ → Type 0
 Sources n w = (i : ℕ) → i < n → edgeAt w i .source < 64
+
+-- "the least of .. and all h - 1 (0 for h = 0)": the outer part of the rules' gvtOf.
+unfoldable pub leastBefore : ℕ → List ℕ → ℕ
+leastBefore m hs = least m (map (λ h. h - 1) hs)

@@ -9,9 +9,10 @@ ghost use mathlib.Core.Path.{_≡_};
 ghost use Prim.Native.Nat.{_+_, _*_, _<_, _≤_};
 ghost use lib.ListN.{length, getD};
 ghost use Rattle.types.specs.Value.{value, span};
+ghost use Rattle.words.specs.Words.{horizonsOf};
 ghost use Rattle.records.specs.Records.{edgeAt, edgesOf, eventAt, eventsOf};
 ghost use Rattle.frontiers.specs.Tables.{Fronts, Lowered, Firsts, Noted, capped};
-ghost use Rattle.frontiers.specs.Rises.{RaisedHorizon, RaisedHorizons, RaisedEdge, RaisedEdges, Sources};
+ghost use Rattle.frontiers.specs.Rises.{RaisedHorizon, RaisedHorizons, RaisedEdge, RaisedEdges, Sources, leastBefore};
 
 // safe(p) of each process: the least of H and the bounds of the edges into it.
 pub fn frontiers(edges: &[u64], count: usize, top: SimTime, safe: &mut [u64])
@@ -100,9 +101,9 @@ fn raise_horizon(horizons: &mut [u64], i: usize, aims: &[u64]) -> bool
     ensures { λ r. ⌜ RaisedHorizon i (now (aims .entry)) (now (horizons .entry)) (now (horizons .exit)) r ⌝ }
 {
     let old = words::tick_in(horizons, 2 * i);
-    let to = words::tick_in(aims, 2 * i);
-    if old.lt(to) {
-        words::put_tick(horizons, 2 * i, to);
+    let aim = words::tick_in(aims, 2 * i);
+    if old.lt(aim) {
+        words::put_tick(horizons, 2 * i, aim);
         return true;
     }
     false
@@ -149,4 +150,20 @@ fn raise_edge(
         return 1;
     }
     0
+}
+
+// The least of cap and all h - 1, 0 for h = 0: what GVT is held to by the local horizons.
+pub fn least_before(horizons: &[u64], n: usize, cap: SimTime) -> SimTime
+    requires { ⌜ 2 * n ≤ length (now horizons) ⌝ }
+    ensures { λ r. ⌜ value r ≡ leastBefore (value cap) (horizonsOf n (now (horizons .entry))) ⌝ }
+{
+    let mut low = cap;
+    let mut i: usize = 0;
+    while i < n {
+        let h = words::tick_in(horizons, 2 * i);
+        let t = h.one_less();
+        low = low.min(t);
+        i += 1;
+    }
+    low
 }
