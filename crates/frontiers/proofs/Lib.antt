@@ -1,0 +1,7 @@
+pub mod Table
+pub mod Falling
+pub mod Noting
+pub mod Capped
+pub mod Rising
+pub mod Lifting
+pub mod Gathered

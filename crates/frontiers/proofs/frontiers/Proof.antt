@@ -1,0 +1,51 @@
+use borrow.Author.Needs.{needs}
+use mathlib.Core.Path.{_≡_}
+use lib.ListN.{length}
+use Rattle.frontiers.proofs.Falling.{Falling, falling-start, falling-more, falling-end}
+use Rattle.frontiers.proofs.frontiers.Statement.{statement}
+use Rattle.frontiers.proofs.frontiers.Tie as tie
+
+abbrev Inv-loop : tie.InvT-loop
+Inv-loop edges count safe₀ i₀ safe i = (length safe ≡ 128) × Falling edges count safe₀ i safe
+
+abbrev μ-loop : tie.MeasureT-loop
+μ-loop edges count safe₀ i₀ safe i = i
+
+fill-requires : tie.Need-fill-requires Inv-loop μ-loop
+fill-requires c κs = search needs
+
+loop-holds : tie.Need-loop-holds Inv-loop μ-loop
+loop-holds c = search (falling-start, needs)
+
+sub-i : tie.Need-sub-i Inv-loop μ-loop
+sub-i c = search needs
+
+lower-requires : tie.Need-lower-requires Inv-loop μ-loop
+lower-requires c κs = search needs
+
+loop-less : tie.Need-loop-less Inv-loop μ-loop
+loop-less c = search needs
+
+loop-again : tie.Need-loop-again Inv-loop μ-loop
+loop-again c = search (falling-more, needs)
+
+same-length : tie.Need-same-length Inv-loop μ-loop
+same-length c = search needs
+
+returns : tie.Need-returns Inv-loop μ-loop
+returns c = search (falling-end, needs)
+
+pub frontiers-spec : {M : Type 1} → statement M
+frontiers-spec =
+    tie.close
+    (tie.spec
+    Inv-loop
+    μ-loop
+    fill-requires
+    loop-holds
+    sub-i
+    lower-requires
+    loop-less
+    loop-again
+    same-length
+    returns)

@@ -1,0 +1,34 @@
+-- What the leaves over tables of ticks promise, in the words of the rules.
+use mathlib.Core.Path.{_≡_}
+use mathlib.Core.List.{List}
+use Prim.Native.Nat.{ℕ, _+_, _*_, _<_, min}
+use lib.Dec.{ltb, eqb}
+use Rattle.words.specs.Words.{tickAt}
+use Rattle.rules.specs.Base.{if_then_else_}
+use Rattle.rules.specs.State.{Event, Edge, top}
+use Rattle.rules.specs.Pending.{firstTick}
+use Rattle.rules.specs.Frontiers.{safe}
+
+-- The tick of process p in a table.
+abbrev pub entry : List ℕ → ℕ → ℕ
+entry w p = tickAt w (2 * p)
+
+-- The table w holds safe(p) of every process.
+unfoldable pub Fronts : List Edge → ℕ → List ℕ → Type 0
+Fronts es H w = (p : ℕ) → p < 64 → entry w p ≡ safe es H p
+
+-- From w to u, the frontier of the edge's destination falls to its bound.
+unfoldable pub Lowered : Edge → List ℕ → List ℕ → Type 0
+Lowered e w u = (p : ℕ) → p < 64 → entry u p ≡ (if eqb (e .destination) p then min (e .bound) (entry w p) else entry w p)
+
+-- The table w holds the first pending tick of every process, or d.
+unfoldable pub Firsts : List Event → ℕ → List ℕ → Type 0
+Firsts q d w = (p : ℕ) → p < 64 → entry w p ≡ firstTick q p d
+
+-- From w to u, the event's destination gets its tick.
+unfoldable pub Noted : Event → List ℕ → List ℕ → Type 0
+Noted e w u = (p : ℕ) → p < 64 → entry u p ≡ (if eqb (e .destination) p then e .tick else entry w p)
+
+-- "min(H, .. + L), or to H on overflow": what the bounds from a process rise to that aims at a.
+unfoldable pub capped : ℕ → ℕ → ℕ → ℕ
+capped H L a = if ltb top (a + L) then H else min H (a + L)
