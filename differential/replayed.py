@@ -1,10 +1,11 @@
 #!/usr/bin/env python3
-"""Writes a sample of the stored answers of the Rust as equations about the rules: crates/replayed/specs/Lists*.antt.
+"""Writes a sample of the stored answers as equations about the rules: crates/replayed/specs/Lists*.antt.
 
   replayed.py [--check]      --check: only say whether the files are what would be written
 
 It reads differential/stored/calls.words and answers.txt (docs/CALLS.md) and takes lists that are small enough to
-compute. The right-hand side of each equation is the Rust's answer, call by call; nothing here computes one.
+compute. The right-hand sides are the stored answers, call by call; nothing here computes one. An answer is the Rust's
+where origin.txt has an r; where the Rust has none (origin.txt has a 0) it is the one that differential/model gives.
 """
 import os, re, struct, sys
 
@@ -171,7 +172,7 @@ def lists():
                 said.append(text)
         yield setup, asked, said, plans, size
 
-HEAD = '''-- Answers of the Rust, by differential/replayed.py: do not edit.
+HEAD = '''-- Stored answers (differential/README.md says which are the Rust's), by differential/replayed.py: do not edit.
 use mathlib.Core.Path.{_≡_, refl}
 use mathlib.Core.Bool.{true, false}
 use mathlib.Core.List.{[], _∷_}
@@ -208,7 +209,10 @@ def chosen():
 def summary(picked):
     said = [t for _, item in picked for t in item[2] + [t for _, t in item[3]]]
     numbers = sorted({int(t.split()[1]) for t in said if t.startswith('refused')})
-    return f'replayed: {len(picked)} lists, {len(said)} answers as equations about the rules; refusals among them: {" ".join(map(str, numbers))}'
+    origin = open(os.path.join(HERE, 'stored', 'origin.txt'), encoding='ascii').read().split('\n')
+    letters = ''.join(origin[k] for k, _ in picked)
+    assert len(letters) == len(said) == letters.count('r') + letters.count('0')
+    return f'replayed: {len(picked)} lists, {len(said)} answers as equations about the rules, {letters.count("r")} by the Rust and {letters.count("0")} by document 01 alone; refusals among them: {" ".join(map(str, numbers))}'
 
 def plain(text):
     """Without layout, which is rt fmt's."""
@@ -219,7 +223,7 @@ def main():
     files = {}
     for f in range(0, len(picked), PER_FILE):
         files[f'Lists{f // PER_FILE}.antt'] = HEAD + '\n' + '\n'.join(equations(k, item) for k, item in picked[f:f + PER_FILE])
-    files['Lib.antt'] = '-- Answers of the Rust as equations about the rules.\npub mod Replay\n' + ''.join(f'pub mod {name[:-5]}\n' for name in sorted(files) if name != 'Lib.antt')
+    files['Lib.antt'] = '-- Stored answers as equations about the rules.\npub mod Replay\n' + ''.join(f'pub mod {name[:-5]}\n' for name in sorted(files) if name != 'Lib.antt')
     stale = [n for n in os.listdir(OUT) if re.fullmatch(r'Lists\d+\.antt', n) and n not in files]
     if '--check' in sys.argv:
         wrong = [n for n, text in files.items() if not os.path.exists(os.path.join(OUT, n)) or plain(open(os.path.join(OUT, n), encoding='utf-8').read()) != plain(text)]

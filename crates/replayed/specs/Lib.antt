@@ -1,4 +1,4 @@
--- Answers of the Rust as equations about the rules.
+-- Stored answers as equations about the rules.
 pub mod Replay
 pub mod Lists0
 pub mod Lists1

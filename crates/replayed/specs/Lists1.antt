@@ -1,4 +1,4 @@
--- Answers of the Rust, by differential/replayed.py: do not edit.
+-- Stored answers (differential/README.md says which are the Rust's), by differential/replayed.py: do not edit.
 use mathlib.Core.Path.{_≡_, refl}
 use mathlib.Core.Bool.{true, false}
 use mathlib.Core.List.{[], _∷_}

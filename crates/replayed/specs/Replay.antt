@@ -1,4 +1,4 @@
--- Lists of calls as docs/CALLS.md has them, carried out by the rules; and short names in which the answers of the Rust are written down.
+-- Lists of calls as docs/CALLS.md has them, carried out by the rules; and short names in which the stored answers are written down.
 use mathlib.Core.Bool.{Bool}
 use mathlib.Core.List.{List, [], _∷_}
 use Prim.Native.Nat.{ℕ, zero, suc}

@@ -1,2 +1,2 @@
-// No code: answers of the original Rust, as equations about the rules. specs/ has them, and
+// No code: stored answers, most of them by the original Rust, as equations about the rules. specs/ has them, and
 // differential/replayed.py writes them.
