@@ -29,3 +29,13 @@ raised-again f g e i (h ∷ hs) = let z : max (max h (g i)) (f i) ≡ max h (g i
 pub advanced-once : (s : State) (h : ℕ) → advanced s h ≡ withFronts s (newEdges s (suc h)) (newHorizons s (suc h)) (gvtOf (s .gvt) h (s .pending) (newHorizons s (suc h)))
 unfolding refreshed
 advanced-once s h = rw (raised-again (refreshTo (s .edges) (suc h) (s .pending)) (aim s (suc h)) (refresh-is-aim s (suc h)) 0 (s .horizons))
+
+-- A refresh raises the local horizons to what an advance would.
+raised-same : (f g : ℕ → ℕ) → ((p : ℕ) → f p ≡ g p) → (i : ℕ) (hs : List ℕ) → raised f i hs ≡ raised g i hs
+unfolding raised
+raised-same f g e i [] = refl
+raised-same f g e i (h ∷ hs) = rw (e i, raised-same f g e (suc i) hs)
+
+pub refreshed-once : (s : State) (h : ℕ) → refreshed s h (s .edges) (s .edges) (s .horizons) ≡ withFronts s (s .edges) (newHorizons s (suc h)) (gvtOf (s .gvt) h (s .pending) (newHorizons s (suc h)))
+unfolding refreshed
+refreshed-once s h = rw (raised-same (refreshTo (s .edges) (suc h) (s .pending)) (aim s (suc h)) (refresh-is-aim s (suc h)) 0 (s .horizons))

@@ -171,27 +171,54 @@ pub record BackCases (s : State) (c : Counters) (mask : ℕ) (xs : List Emission
   pub spends : (h b : ℕ) → Commits s mask xs h b → P (out (Refused (Answers.EventBudgetExceeded b)) (closed (handled s xs)) (countRound c (s .batch) xs))
   pub commits : (h b : ℕ) → Commits s mask xs h b → let u = refreshed (handled s xs) h (s .edges) (s .edges) (s .horizons) in P (out (Committed (u .gvt)) u (countRound c (s .batch) xs))
 
--- Every row that poisons is a losing one.
-losing-emissions : (s : State) (e : Event) (xs : List Emission) → All (λ (r : Row). Losing (r .refusal)) (emissionRows s e xs)
-unfolding emissionRows refusalNumber
-losing-emissions s e [] = tt
-losing-emissions s e (x ∷ xs) =
-    let l : (r : Refusal) → eqb (refusalNumber r) 11 ≡ false → eqb (refusalNumber r) 24 ≡ false → eqb (refusalNumber r) 26 ≡ false → Losing r = λ r a b d. record { not-11 = a; not-24 = b; not-26 = d } in
-    by-test (All (λ (r : Row). Losing (r .refusal)))
-    (λ _. (l _ refl refl refl, (l _ refl refl refl, (l _ refl refl refl, (l _ refl refl refl, (l _ refl refl refl, (l _ refl refl refl, losing-emissions s e xs)))))))
-    (λ _. losing-emissions s e xs)
+-- Q of everything that a row that poisons can refuse with.
+pub record Poisons (Q : Refusal → Type 0) : Type 0 where
+  pub failed : (p : ℕ) → Q (Answers.HandlerFailed p)
+  pub mismatch : (p a : ℕ) → Q (Answers.OutboundSourceMismatch p a)
+  pub unknown : (b : ℕ) → Q (Answers.UnknownOutboundDestination b)
+  pub unrouted : (a b : ℕ) → Q (Answers.OutboundRouteMissing a b)
+  pub overflow : (p t l : ℕ) → Q (Answers.LookaheadOverflow p t l)
+  pub violation : (p t u m : ℕ) → Q (Answers.OutboundLookaheadViolation p t u m)
+  pub straggler : (b u h : ℕ) → Q (Answers.Straggler b u h)
+  pub sequence : Q Answers.EventSequenceOverflow
+  pub full : Q Answers.QueueFull
 
-losing-processes : (s : State) (mask : ℕ) (xs : List Emission) (es : List Event) → All (λ (r : Row). Losing (r .refusal)) (processRows s mask xs es)
-unfolding processRows refusalNumber
-losing-processes s mask xs [] = tt
-losing-processes s mask xs (e ∷ es) =
-    (record { not-11 = refl; not-24 = refl; not-26 = refl }, all-append (λ (r : Row). Losing (r .refusal)) (emissionRows s e xs) (processRows s mask xs es) (losing-emissions s e xs) (losing-processes s mask xs es))
+module _ (Q : Refusal → Type 0) (k : Poisons Q) where
+  poison-emissions : (s : State) (e : Event) (xs : List Emission) → All (λ (r : Row). Q (r .refusal)) (emissionRows s e xs)
+  unfolding emissionRows
+  poison-emissions s e [] = tt
+  poison-emissions s e (x ∷ xs) =
+      by-test (All (λ (r : Row). Q (r .refusal)))
+      (λ _. (k .mismatch _ _, (k .unknown _, (k .unrouted _ _, (k .overflow _ _ _, (k .violation _ _ _ _, (k .straggler _ _ _, poison-emissions s e xs)))))))
+      (λ _. poison-emissions s e xs)
+
+  pub poison-processes : (s : State) (mask : ℕ) (xs : List Emission) (es : List Event) → All (λ (r : Row). Q (r .refusal)) (processRows s mask xs es)
+  unfolding processRows
+  poison-processes s mask xs [] = tt
+  poison-processes s mask xs (e ∷ es) = (k .failed _, all-append (λ (r : Row). Q (r .refusal)) (emissionRows s e xs) (processRows s mask xs es) (poison-emissions s e xs) (poison-processes s mask xs es))
+
+  poison-all : (s : State) (mask : ℕ) (xs : List Emission) → All (λ (r : Row). Q (r .refusal)) (poisonRows s mask xs)
+  poison-all s mask xs = all-append (λ (r : Row). Q (r .refusal)) (processRows s mask xs (s .batch)) _ (poison-processes s mask xs (s .batch)) (k .sequence, (k .full, tt))
+
+-- Every row that poisons is a losing one.
+losing : Poisons Losing
+unfolding refusalNumber
+losing =
+    let l : (r : Refusal) → eqb (refusalNumber r) 11 ≡ false → eqb (refusalNumber r) 24 ≡ false → eqb (refusalNumber r) 26 ≡ false → Losing r = λ r a b d. record { not-11 = a; not-24 = b; not-26 = d } in
+    record {
+      failed = λ p. l _ refl refl refl;
+      mismatch = λ p a. l _ refl refl refl;
+      unknown = λ b. l _ refl refl refl;
+      unrouted = λ a b. l _ refl refl refl;
+      overflow = λ p t m. l _ refl refl refl;
+      violation = λ p t u m. l _ refl refl refl;
+      straggler = λ b u h. l _ refl refl refl;
+      sequence = l _ refl refl refl;
+      full = l _ refl refl refl;
+    }
 
 losing-rows : (s : State) (mask : ℕ) (xs : List Emission) → All (λ (r : Row). Losing (r .refusal)) (poisonRows s mask xs)
-unfolding refusalNumber
-losing-rows s mask xs =
-    all-append (λ (r : Row). Losing (r .refusal)) (processRows s mask xs (s .batch)) _ (losing-processes s mask xs (s .batch))
-    (record { not-11 = refl; not-24 = refl; not-26 = refl }, (record { not-11 = refl; not-24 = refl; not-26 = refl }, tt))
+losing-rows s mask xs = poison-all Losing losing s mask xs
 
 all-losing : (Q : Refusal → Type 0) → ((r : Refusal) → Losing r → Q r) → (rs : List Row) → All (λ (r : Row). Losing (r .refusal)) rs → All (λ (r : Row). Q (r .refusal)) rs
 all-losing Q f [] i = tt

@@ -44,3 +44,5 @@ pub mod Demand
 pub mod Carried
 -- Laws for the code.
 pub mod Again
+pub mod Outcomes
+pub mod ProcessCount

@@ -1,11 +1,13 @@
--- What holds of every element of a list, and the tests `any`, `every` and `nonEmpty`.
+-- What holds of every element of a list, the tests `any`, `every` and `nonEmpty`, and sums.
 use mathlib.Core.Path.{_≡_, refl, sym}
 use mathlib.Core.Bool.{Bool, true, false, _||_, true≢false}
 use mathlib.Core.List.{List, [], _∷_, _++_, map}
-use Prim.Native.Nat.{_+_, _<_}
+use Prim.Native.Nat.{ℕ, _+_, _≤_, _<_}
+use native.Mathlib.Numerals.{add-one}
 use native.Mathlib.Omega.{arith}
-use lib.ListN.{length}
-use Rattle.rules.specs.Base.{any, every, nonEmpty}
+use lib.ListN.{length, getD, drop, drop-of-length-le}
+use lib.Seq.{drop-cons}
+use Rattle.rules.specs.Base.{any, every, nonEmpty, sum}
 use Rattle.rules.proofs.Tests.{or-left, or-right, or-both, and-both}
 
 abbrev pub All : {A : Type 0} → (A → Type 0) → List A → Type 0
@@ -90,3 +92,12 @@ pub some-long : {A : Type 0} (xs : List A) → nonEmpty xs ≡ true → 0 < leng
 unfolding nonEmpty
 some-long [] h = absurd (true≢false (sym h))
 some-long (x ∷ xs) h = omega arith
+
+-- The sum of what is left at i.
+pub sum-more : (xs : List ℕ) (i : ℕ) → i < length xs → sum (drop i xs) ≡ getD xs i 0 + sum (drop (i + 1) xs)
+unfolding sum
+sum-more xs i h = rw (add-one, drop-cons xs i 0)
+
+pub sum-none : (xs : List ℕ) (i : ℕ) → length xs ≤ i → sum (drop i xs) ≡ 0
+unfolding sum
+sum-none xs i h = rw (drop-of-length-le xs h)

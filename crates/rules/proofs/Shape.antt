@@ -88,7 +88,7 @@ tells : {A : Type 0} (f : A → Bool) (P : A → Type 0) → ((a : A) → P a �
 tells f P g xs i = none-any f xs (all-map P (λ x. f x ≡ false) g xs i)
 
 -- Whatever of several tests failed.
-alls : (ts : List Bool) → anyOf ts ≡ false → All (λ (t : Bool). t ≡ false) ts
+pub alls : (ts : List Bool) → anyOf ts ≡ false → All (λ (t : Bool). t ≡ false) ts
 unfolding anyOf
 alls ts h = any-none (λ t. t) ts h
 

@@ -1,5 +1,5 @@
 -- Tables of refusals: what a row that decides tells, and what it tells that none does.
-use mathlib.Core.Path.{_≡_}
+use mathlib.Core.Path.{_≡_, refl}
 use mathlib.Core.Bool.{true, false}
 use mathlib.Core.List.{List, [], _∷_, _++_}
 use Rattle.rules.specs.Answers.{Refusal}
@@ -29,3 +29,9 @@ firsts-append Q (r ∷ rs) ts i j = (i .0, λ e. firsts-append Q rs ts (i .1 e) 
 pub firsts-all : (Q : Refusal → Type 0) (rs : List Row) → All (λ (r : Row). Q (r .refusal)) rs → Firsts Q rs
 firsts-all Q [] i = tt
 firsts-all Q (r ∷ rs) i = ((λ _. i .0), λ _. firsts-all Q rs (i .1))
+
+-- The rows ts decide where none of the rows rs does.
+pub unless-append : {A : Type 0} (rs ts : List Row) (f : Refusal → A) (a : A) → unless (rs ++ ts) f a ≡ unless rs f (unless ts f a)
+unfolding unless
+unless-append [] ts f a = refl
+unless-append (r ∷ rs) ts f a = rw (unless-append rs ts f a)

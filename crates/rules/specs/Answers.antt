@@ -1,5 +1,5 @@
 -- What a call answers: one constructor for each answer and each refusal, and the number and the values that document 01's table gives to each.
--- Refusals have the names of the Rust's RuntimeError and PdesError where those have one; its HandlerPanicked is HandlerFailed here, since a host reports it.
+-- Refusals have the names of the Rust's RuntimeError and PdesError where those have one; its HandlerPanicked is HandlerFailed here, since a host reports it, and plan's InvalidPartitionLookahead is build's InvalidLookahead: one row.
 use mathlib.Core.List.{List, [], _∷_}
 use Prim.Native.Nat.{ℕ}
 use Rattle.rules.specs.State.{Event, Counters}

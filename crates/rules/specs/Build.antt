@@ -20,6 +20,9 @@ pub record Setup : Type 0 where
   pub counts : List ℕ
   pub destinations : List ℕ
 
+abbrev pub setup : ℕ → ℕ → List ℕ → List ℕ → List ℕ → List ℕ → Setup
+setup n L ids sources counts destinations = record { n = n; lookahead = L; ids = ids; sources = sources; counts = counts; destinations = destinations }
+
 -- 4: "64-bit mask of missing ids": 2^p for each p below n that is not among the ids.
 unfoldable pub missing : List ℕ → List ℕ → ℕ
 missing ids [] = 0

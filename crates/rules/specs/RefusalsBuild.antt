@@ -6,12 +6,9 @@ use Prim.Native.Nat.{ℕ, _+_, _/_, _%_}
 use Rattle.rules.specs.Base.{some, upTo}
 use Rattle.rules.specs.State.{Counters, unset, zeros}
 use Rattle.rules.specs.Answers.{Accepted, number}
-use Rattle.rules.specs.Build.{Setup, build, built}
+use Rattle.rules.specs.Build.{Setup, setup, build, built}
 use Rattle.rules.specs.Rehearsals.{pair}
 use Rattle.rules.specs.Told.{TurnsAway, times}
-
-abbrev pub setup : ℕ → ℕ → List ℕ → List ℕ → List ℕ → List ℕ → Setup
-setup n L ids sources counts destinations = record { n = n; lookahead = L; ids = ids; sources = sources; counts = counts; destinations = destinations }
 
 abbrev pub both : List ℕ
 both = 0 ∷ 1 ∷ []

@@ -16,11 +16,11 @@ use Rattle.rules.specs.Answers.{Refusal, UnknownTopologySource, UnknownTopology
 use Rattle.rules.specs.Rows.{Row, unless}
 use Rattle.rules.specs.Build.{destinationRows, topologyRows}
 use Rattle.rules.proofs.Tests.{by-bool}
+use Rattle.rules.proofs.Lists.{sum-more}
 use Rattle.topology.specs.declared.Fault.{Fault}
 use Rattle.topology.specs.declared.Fault.the-variants as fault
 use Rattle.topology.specs.Judged.{decided, refusalOf, Fresh, JudgedRow, Fitting}
 use Rattle.topology.proofs.Fault.{the-type}
-use Rattle.topology.proofs.Sums.{sum-more}
 
 -- A fault that is not Sound refuses.
 pub refuses : (r : Fault) → OneOf (1 ∷ 2 ∷ 3 ∷ 4 ∷ []) (tagOf the-type r) → isSome (refusalOf r) ≡ true

@@ -3,26 +3,16 @@ use mathlib.Core.Path.{_≡_, sym, _∙_}
 use mathlib.Core.Bool.{Bool, true, false, not, _||_}
 use mathlib.Core.List.{List, [], _∷_}
 use Prim.Native.Nat.{ℕ, _+_, _-_, _≤_, _<_}
-use native.Mathlib.Numerals.{add-one}
 use native.Mathlib.Omega.{arith}
 use lib.Dec.{leb, ltb, eqb}
-use lib.ListN.{length, getD, drop, drop-of-length-le}
-use lib.Seq.{drop-cons}
-use borrow.Author.Tests.{eqb-true, eqb-false, eq-eqb, ne-eqb, le-ltb, lt-ltb, leb-true, leb-false}
+use lib.ListN.{length, getD, drop}
+use borrow.Author.Tests.{eqb-true, eqb-false, eq-eqb, ne-eqb, le-ltb, lt-ltb, ltb-false, leb-true, leb-false}
 use Rattle.rules.specs.Base.{any, anyOf, sum, rising}
 use Rattle.rules.specs.Build.{malformedRows}
 use Rattle.rules.proofs.Tests.{by-bool, not-true, not-false}
-use Rattle.rules.proofs.Lists.{All, any-none}
+use Rattle.rules.proofs.Lists.{All, any-none, sum-more, sum-none}
 use Rattle.ids.specs.Judged.{Orderly}
 use Rattle.topology.specs.Judged.{RowsFit, Fitting}
-
-pub sum-more : (xs : List ℕ) (i : ℕ) → i < length xs → sum (drop i xs) ≡ getD xs i 0 + sum (drop (i + 1) xs)
-unfolding sum
-sum-more xs i h = rw (add-one, drop-cons xs i 0)
-
-pub sum-none : (xs : List ℕ) (i : ℕ) → length xs ≤ i → sum (drop i xs) ≡ 0
-unfolding sum
-sum-none xs i h = rw (drop-of-length-le xs h)
 
 eqb-iff : (a b c d : ℕ) → (a ≡ b → c ≡ d) → (c ≡ d → a ≡ b) → eqb a b ≡ eqb c d
 eqb-iff a b c d f g = by-bool (eqb a b) (λ e. e ∙ sym (eq-eqb c d (f (eqb-true a b e)))) (λ e. e ∙ sym (ne-eqb c d (λ x. eqb-false a b e (g x))))
@@ -64,6 +54,9 @@ module _ (n : ℕ) (sources counts ds : List ℕ) (few : n ≤ 64) (fit : RowsFi
   passed : All (λ t. t ≡ false) (not (eqb (length sources) (length counts)) ∷ not (rising ltb sources) ∷ not (eqb (sum counts) (length ds)) ∷ ltb 512 (length ds) ∷ [])
   unfolding malformedRows anyOf
   passed = any-none (λ (t : Bool). t) _ (not-true _ (sym (fit .of-setup 0 0 [])))
+
+  pub fit-few : length ds ≤ 512
+  fit-few = ltb-false 512 (length ds) (passed .1 .1 .1 .0)
 
   pub fit-orderly : Orderly n sources
   fit-orderly = record { few = few; rise = not-false _ (passed .1 .0) }
