@@ -1,6 +1,5 @@
-pub mod Table
-pub mod Falling
-pub mod Noting
+pub mod Changing
+pub mod Tables
 pub mod Capped
 pub mod Rising
 pub mod Lifting

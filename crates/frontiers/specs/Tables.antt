@@ -17,17 +17,21 @@ entry w p = tickAt w (2 * p)
 unfoldable pub Fronts : List Edge → ℕ → List ℕ → Type 0
 Fronts es H w = (p : ℕ) → p < 64 → entry w p ≡ safe es H p
 
--- From w to u, the frontier of the edge's destination falls to its bound.
-unfoldable pub Lowered : Edge → List ℕ → List ℕ → Type 0
-Lowered e w u = (p : ℕ) → p < 64 → entry u p ≡ (if eqb (e .destination) p then min (e .bound) (entry w p) else entry w p)
+-- From w to u, the tick of process d becomes what f makes of it, and the others stay.
+unfoldable pub Changed : ℕ → (ℕ → ℕ) → List ℕ → List ℕ → Type 0
+Changed d f w u = (p : ℕ) → p < 64 → entry u p ≡ (if eqb d p then f (entry w p) else entry w p)
+
+-- The frontier of the edge's destination falls to its bound.
+abbrev pub Lowered : Edge → List ℕ → List ℕ → Type 0
+Lowered e w u = Changed (e .destination) (min (e .bound)) w u
 
 -- The table w holds the first pending tick of every process, or d.
 unfoldable pub Firsts : List Event → ℕ → List ℕ → Type 0
 Firsts q d w = (p : ℕ) → p < 64 → entry w p ≡ firstTick q p d
 
--- From w to u, the event's destination gets its tick.
-unfoldable pub Noted : Event → List ℕ → List ℕ → Type 0
-Noted e w u = (p : ℕ) → p < 64 → entry u p ≡ (if eqb (e .destination) p then e .tick else entry w p)
+-- The event's destination gets its tick.
+abbrev pub Noted : Event → List ℕ → List ℕ → Type 0
+Noted e w u = Changed (e .destination) (λ (x : ℕ). e .tick) w u
 
 -- "min(H, .. + L), or to H on overflow": what the bounds from a process rise to that aims at a.
 unfoldable pub capped : ℕ → ℕ → ℕ → ℕ

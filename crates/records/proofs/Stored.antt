@@ -56,7 +56,11 @@ edge-cong u w i j h =
 pub edges-cong : (n : ℕ) (u w : List ℕ) → ((k : ℕ) → k < 4 * n → getD u k 0 ≡ getD w k 0) → edgesOf n u ≡ edgesOf n w
 edges-cong n u w h = tab-cong _ _ 0 n (λ i a b. edge-cong u w i i (λ k c. h (4 * i + k) (omega arith)))
 
--- An event's tick where it stands.
+-- An event by the record read in its place, and its tick where it stands.
+pub event-read : (w : List ℕ) (i : ℕ) (r : Record) → r ≡ recordIn w (8 * i) → eventAt w i ≡ eventOf r
+unfolding eventAt
+event-read w i r e = ap eventOf (sym e)
+
 pub event-tick : (w : List ℕ) (i : ℕ) → eventAt w i .tick ≡ tickAt w (8 * i + 1)
 unfolding eventAt recordIn tickAt
 event-tick w i = let e : 8 * i + 1 + 1 ≡ 8 * i + 2 = omega arith in rw e

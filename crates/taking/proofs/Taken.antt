@@ -1,11 +1,10 @@
 -- The pass over the words takes what the rule takes.
-use mathlib.Core.Path.{_≡_, sym, ap, _∙_}
+use mathlib.Core.Path.{_≡_, refl, sym, ap, _∙_}
 use mathlib.Core.Bool.{true}
 use mathlib.Core.List.{List, [], _∷_}
 use Prim.Native.Nat.{ℕ, _+_, _-_, _≤_, _<_}
 use native.Mathlib.Omega.{arith}
-use lib.ListN.{length, drop, length-drop}
-use lib.Seq.{getD-drop, ext-getD}
+use lib.ListN.{length}
 use Rattle.rules.specs.Base.{upTo, rising}
 use Rattle.rules.specs.State.{Event, Edge}
 use Rattle.rules.specs.Pending.{before}
@@ -13,14 +12,14 @@ use Rattle.rules.specs.Frontiers.{safe}
 use Rattle.rules.specs.Step.{Taken, take}
 use Rattle.rules.proofs.Tests.{by-test}
 use Rattle.rules.proofs.Lists.{All, all-map}
-use Rattle.rules.proofs.Order.{Pairs, Before, test-before, rising-pairs}
+use Rattle.rules.proofs.Order.{Pairs, test-before, rising-pairs}
 use Rattle.words.proofs.Tab.{length-tab}
 use Rattle.records.specs.Records.{eventAt, eventsOf}
 use Rattle.records.proofs.Placing.{all-at}
 use Rattle.taking.specs.Sweep.{seenBy, sweep}
-use Rattle.taking.specs.Passing.{frontAt, Owners, SameFrom, Took}
+use Rattle.taking.specs.Passing.{frontAt, Owners, Took}
 use Rattle.taking.specs.declared.Sieve.{Sieve}
-use Rattle.taking.proofs.Sweep.{Sorted, takes-means, sweep-is, sweep-cong}
+use Rattle.taking.proofs.Sweep.{Sorted, sweep-is, sweep-cong}
 
 pairs-sorted : (q : List Event) → Pairs (λ (e f : Event). e .destination ≤ f .destination) q → Sorted q
 pairs-sorted [] a = tt
@@ -56,37 +55,16 @@ owners count n w h a i l =
     let d : eventAt w i .destination < n = all-at (λ (e : Event). e .destination < n) (eventAt w) 0 count i a (omega arith) (omega arith) in
     omega arith
 
--- No more are taken than there is room for, and no more than there are processes.
-few : (front : ℕ → ℕ) (room seen : ℕ) (q : List Event) → length (sweep front room seen q .events) ≤ room
+all-stay : (front : ℕ → ℕ) (room seen : ℕ) (q : List Event) → length (sweep front room seen q .events) ≡ 0 → sweep front room seen q .left ≡ q
 unfolding sweep
-few front room seen [] = omega arith
-few front room seen (e ∷ q) =
-    by-test (λ (t : Taken). length (t .events) ≤ room)
-    (λ y. omega (arith, few front (room - 1) (seenBy seen e) q, takes-means front room seen e y .1))
-    (λ y. few front room (seenBy seen e) q)
-
-each : (front : ℕ → ℕ) (n room seen : ℕ) (q : List Event) → seen ≤ n → All (λ (e : Event). e .destination < n) q → length (sweep front room seen q .events) + seen ≤ n
-unfolding sweep
-each front n room seen [] h a = omega arith
-each front n room seen (e ∷ q) h a =
-    let d : seenBy seen e ≤ n = omega (arith, a .0) in
-    by-test (λ (t : Taken). length (t .events) + seen ≤ n)
-    (λ y. omega (arith, each front n (room - 1) (seenBy seen e) q d (a .1), takes-means front room seen e y .0))
-    (λ y. omega (arith, each front n room (seenBy seen e) q d (a .1)))
+all-stay front room seen [] h = refl
+all-stay front room seen (e ∷ q) h =
+    by-test (λ (t : Taken). length (t .events) ≡ 0 → t .left ≡ (e ∷ q)) (λ _ z. absurd (omega arith)) (λ _ z. ap (λ (x : List Event). e ∷ x) (all-stay front room (seenBy seen e) q z)) h
 
 module _ (count : ℕ) (table : List ℕ) (room : ℕ) (w b u c : List ℕ) (r : Sieve) (t : Took count table room w b u c r) where
   taken-is : r .taken ≡ length (sweep (frontAt table) room 0 (eventsOf count w) .events)
   taken-is = sym (length-tab (eventAt c) 0 (r .taken)) ∙ ap length (t .events)
 
-  pub took-few : r .taken ≤ room
-  took-few = omega (arith, taken-is, few (frontAt table) room 0 (eventsOf count w))
-
-  pub took-each : (n : ℕ) → All (λ (e : Event). e .destination < n) (eventsOf count w) → r .taken ≤ n
-  took-each n a = omega (arith, taken-is, each (frontAt table) n room 0 (eventsOf count w) (omega arith) a)
-
--- Words that are the same from a place on, as lists.
-pub same-drop : (k : ℕ) (u w : List ℕ) → length u ≡ length w → SameFrom k u w → drop k u ≡ drop k w
-unfolding SameFrom
-same-drop k u w e s =
-    let l : length (drop k u) ≡ length (drop k w) = simp length-drop (omega arith) in
-    ext-getD 0 (drop k u) (drop k w) l (λ i h. getD-drop k u i 0 ∙ s (k + i) (omega arith) ∙ sym (getD-drop k w i 0))
+  -- Where nothing was taken, nothing moved.
+  pub took-none : r .taken ≡ 0 → eventsOf (r .kept) u ≡ eventsOf count w
+  took-none e = t .left ∙ all-stay (frontAt table) room 0 (eventsOf count w) (omega (arith, taken-is))

@@ -4,7 +4,7 @@ use mathlib.Core.List.{List, _++_, append-assoc}
 use Prim.Native.Nat.{ℕ, suc, _+_, _-_, _≤_, _<_}
 use native.Mathlib.Omega.{arith}
 use lib.ListN.{length, getD, set, take, drop, length-append, length-take, length-drop, length-replicate, getD-replicate, List·getD-append}
-use lib.Seq.{length-take-le, getD-take, getD-drop, getD-append-add, sets, sets-eq}
+use lib.Seq.{length-take-le, getD-take, getD-drop, getD-append-add, drop-append-add, take-at, drop-at, sets, sets-eq}
 use Rattle.words.specs.Words.{zeroes, cleared}
 
 module _ (from to : ℕ) (w : List ℕ) (le : from ≤ to) (fits : to ≤ length w) where
@@ -37,6 +37,18 @@ module _ (from to : ℕ) (w : List ℕ) (le : from ≤ to) (fits : to ≤ length
       let d : to + (k - to) ≡ k = omega arith in
       rw e at (behind (length (zeroes (to - from)) + (k - to)) ∙ getD-append-add (zeroes (to - from)) (drop to w) (k - to) 0)
       ∙ rw d at (getD-drop to w (k - to) 0)
+
+  -- The same by parts.
+  pub clear-freed : take (to - from) (drop from (cleared from to w)) ≡ zeroes (to - from)
+  unfolding cleared
+  clear-freed = ap (take (to - from)) (drop-at (take from w) (zeroes (to - from) ++ drop to w) from front) ∙ take-at (zeroes (to - from)) (drop to w) (to - from) (length-replicate (to - from) 0)
+
+  pub clear-beyond : drop to (cleared from to w) ≡ drop to w
+  unfolding cleared
+  clear-beyond =
+      let l : length (zeroes (to - from)) ≡ to - from = length-replicate (to - from) 0 in
+      let e : length (take from w) + (to - from) ≡ to = omega (arith, front) in
+      rw e at (drop-append-add (take from w) (zeroes (to - from) ++ drop to w) (to - from)) ∙ drop-at (zeroes (to - from)) (drop to w) (to - from) l
 
 -- The loop that clears: what is left to store at i.
 unfoldable pub clearing : ℕ → ℕ → List ℕ → List ℕ

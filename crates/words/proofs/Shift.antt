@@ -1,13 +1,13 @@
--- The loop that moves words up by 8, from the last to the first: what the list is when the first i are left.
+-- The loops that move words by 8: up, from the last to the first, what the list is when the first i are left; and down, from the first to the last.
 use Prim.Native.Nat.{ℕ, suc, _+_, _-_, _<_, _≤_}
-use mathlib.Core.Path.{_≡_, sym, _∙_, ap}
+use mathlib.Core.Path.{_≡_, refl, sym, _∙_, ap}
 use mathlib.Core.List.{List, _∷_, _++_, append-assoc}
 use native.Mathlib.Numerals.{add-one}
 use native.Mathlib.Nat.{sub-self}
 use native.Mathlib.Omega.{arith}
 use lib.ListN.{length, take, drop, getD, set, length-append, length-take, length-drop, take-append-drop, List·getD-append}
-use lib.Seq.{take-suc, drop-cons, set-at, length-take-le, getD-take}
-use Rattle.words.specs.Words.{shifted}
+use lib.Seq.{take-suc, drop-cons, set-at, length-take-le, getD-take, getD-drop, getD-append-add}
+use Rattle.words.specs.Words.{shifted, shiftedDown}
 
 -- What is behind the first i + 8 is in place.
 unfoldable pub partway : ℕ → ℕ → List ℕ → List ℕ
@@ -62,3 +62,31 @@ shift-more n i w w₀ p q r e =
     let h : i - 1 < n = omega arith in
     let d : w ≡ partway n (i - 1 + 1) w₀ = e ∙ ap (λ (k : ℕ). partway n k w₀) s in
     rw (d, read n (i - 1) w₀ h r) (step n (i - 1) w₀ h r)
+
+-- Down: the word at i + 8 goes to i, and one word more is in place.
+module _ (i : ℕ) (w : List ℕ) (h : i + 8 < length w) where
+  fore : length (take i (drop 8 w)) ≡ i
+  fore = let g : i ≤ length (drop 8 w) = simp length-drop (omega arith) in length-take-le i (drop 8 w) g
+
+  down-read : getD (shiftedDown i w) (i + 8) 0 ≡ getD w (i + 8) 0
+  unfolding shiftedDown
+  down-read = ap (λ (k : ℕ). getD (take i (drop 8 w) ++ drop i w) (k + 8) 0) (sym fore) ∙ getD-append-add (take i (drop 8 w)) (drop i w) 8 0 ∙ getD-drop i w 8 0
+
+  down-step : set (shiftedDown i w) i (getD w (i + 8) 0) ≡ shiftedDown (i + 1) w
+  unfolding shiftedDown
+  down-step =
+      let e : i + 1 ≡ suc i = omega arith in
+      let c : 8 + i ≡ i + 8 = omega arith in
+      let a : i < length w = omega arith in
+      let b : i < length (drop 8 w) = simp length-drop (omega arith) in
+      let x : getD (drop 8 w) i 0 ≡ getD w (i + 8) 0 = rw c at (getD-drop 8 w i 0) in
+      ap (λ (l : List ℕ). set (take i (drop 8 w) ++ l) i (getD w (i + 8) 0)) (drop-cons w i 0 a) ∙
+      set-at (take i (drop 8 w)) _ (drop (suc i) w) _ i fore ∙
+      rw (e, take-suc (drop 8 w) i 0 b, x) (sym (append-assoc (take i (drop 8 w)) _ (drop (suc i) w)))
+
+pub down-more : (i : ℕ) (w w₀ : List ℕ) → i + 8 < length w₀ → w ≡ shiftedDown i w₀ → set w i (getD w (i + 8) 0) ≡ shiftedDown (i + 1) w₀
+down-more i w w₀ h e = rw (e, down-read i w₀ h) (down-step i w₀ h)
+
+pub down-start : (w : List ℕ) → w ≡ shiftedDown 0 w
+unfolding shiftedDown
+down-start w = refl

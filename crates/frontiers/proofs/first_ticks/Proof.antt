@@ -1,7 +1,8 @@
 use borrow.Author.Needs.{needs}
 use mathlib.Core.Path.{_≡_}
 use lib.ListN.{length}
-use Rattle.frontiers.proofs.Noting.{Noting, noting-start, noting-more, noting-end}
+use Rattle.frontiers.proofs.Changing.{passing-start, passing-more}
+use Rattle.frontiers.proofs.Tables.{Noting, noting-end}
 use Rattle.frontiers.proofs.first_ticks.Statement.{statement}
 use Rattle.frontiers.proofs.first_ticks.Tie as tie
 
@@ -15,7 +16,7 @@ fill-requires : tie.Need-fill-requires Inv-loop μ-loop
 fill-requires c κs = search needs
 
 loop-holds : tie.Need-loop-holds Inv-loop μ-loop
-loop-holds c = search (noting-start, needs)
+loop-holds c = search (passing-start, needs)
 
 sub-i : tie.Need-sub-i Inv-loop μ-loop
 sub-i c = search needs
@@ -27,7 +28,7 @@ loop-less : tie.Need-loop-less Inv-loop μ-loop
 loop-less c = search needs
 
 loop-again : tie.Need-loop-again Inv-loop μ-loop
-loop-again c = search (noting-more, needs)
+loop-again c = search (passing-more, needs)
 
 same-length : tie.Need-same-length Inv-loop μ-loop
 same-length c = search needs

@@ -1,5 +1,5 @@
 use borrow.Author.Needs.{needs}
-use Rattle.frontiers.proofs.Falling.{lower-yes, lower-no}
+use Rattle.frontiers.proofs.Tables.{lower-yes, lower-no}
 use Rattle.frontiers.proofs.lower.Statement.{statement}
 use Rattle.frontiers.proofs.lower.Tie as tie
 

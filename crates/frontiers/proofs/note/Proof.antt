@@ -1,5 +1,5 @@
 use borrow.Author.Needs.{needs}
-use Rattle.frontiers.proofs.Noting.{note-yes, note-no}
+use Rattle.frontiers.proofs.Tables.{note-yes, note-no}
 use Rattle.frontiers.proofs.note.Statement.{statement}
 use Rattle.frontiers.proofs.note.Tie as tie
 
