@@ -1,0 +1,51 @@
+use mathlib.Core.Path.{_≡_, refl}
+use lib.ListN.{length}
+use borrow.Author.Needs.{needs}
+use Rattle.edges.proofs.Pairs.{Passing, passing-start, passing-more, passing-stop, passing-end, not-strange}
+use Rattle.edges.proofs.bad_edges.Statement.{statement}
+use Rattle.edges.proofs.bad_edges.Tie as tie
+
+abbrev Inv-loop : tie.InvT-loop
+Inv-loop edges count seen₀ i₀ seen i = (length seen ≡ 64) × Passing edges count i seen
+
+abbrev μ-loop : tie.MeasureT-loop
+μ-loop edges count seen₀ i₀ seen i = i
+
+loop-holds : tie.Need-loop-holds Inv-loop μ-loop
+loop-holds c = (refl, passing-start _ _)
+
+sub-i : tie.Need-sub-i Inv-loop μ-loop
+sub-i c = search needs
+
+slice-aggregate-meet : tie.Need-slice-aggregate-meet Inv-loop μ-loop
+slice-aggregate-meet c = search needs
+
+meet-requires : tie.Need-meet-requires Inv-loop μ-loop
+meet-requires c κs = search (not-strange, needs)
+
+returns : tie.Need-returns Inv-loop μ-loop
+returns c = search (passing-stop, needs)
+
+loop-less : tie.Need-loop-less Inv-loop μ-loop
+loop-less c = search needs
+
+loop-again : tie.Need-loop-again Inv-loop μ-loop
+loop-again c = search (passing-more, needs)
+
+returns-2 : tie.Need-returns-2 Inv-loop μ-loop
+returns-2 c = search (passing-end, needs)
+
+pub bad-edges-spec : {M : Type 1} → statement M
+bad-edges-spec =
+    tie.close
+    (tie.spec
+    Inv-loop
+    μ-loop
+    loop-holds
+    sub-i
+    slice-aggregate-meet
+    meet-requires
+    returns
+    loop-less
+    loop-again
+    returns-2)

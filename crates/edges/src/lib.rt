@@ -1,0 +1,98 @@
+// What is asked of the edges of a state, in one pass over flat words, in any order of the edges.
+//
+// An edge is four words (specs/Records.antt of records). These are leaves: each asks that the words
+// it touches are there.
+ghost use mathlib.Core.Path.{_≡_};
+ghost use mathlib.Core.Bool.{false};
+ghost use Prim.Native.Nat.{_+_, _*_, _≤_};
+ghost use lib.ListN.{length};
+ghost use Rattle.rules.specs.Base.{any};
+ghost use Rattle.rules.specs.Pending.{joins, route};
+ghost use Rattle.rules.specs.Foreign.{strangeEdge, badEdges};
+ghost use Rattle.records.specs.Records.{edgeAt, edgesOf};
+ghost use Rattle.edges.specs.Seen.{Met};
+
+// Whether a route leads from a to b: to itself, or along an edge. Ids are whole words here.
+pub fn routed(edges: &[u64], count: usize, a: u64, b: u64) -> bool
+    requires { ⌜ 4 * count ≤ length (now edges) ⌝ }
+    ensures { λ r. ⌜ r ≡ route (edgesOf count (now (edges .entry))) a b ⌝ }
+{
+    if a == b {
+        return true;
+    }
+    let mut i: usize = 0;
+    while i < count {
+        if joins(edges, i, a, b) {
+            return true;
+        }
+        i += 1;
+    }
+    false
+}
+
+// Whether edge i leads from a to b.
+fn joins(edges: &[u64], i: usize, a: u64, b: u64) -> bool
+    requires { ⌜ 4 * i + 4 ≤ length (now edges) ⌝ }
+    ensures { λ r. ⌜ r ≡ joins a b (edgeAt (now (edges .entry)) i) ⌝ }
+{
+    edges[4 * i] == a && edges[4 * i + 1] == b
+}
+
+// 11: whether an edge has an end that is not below n.
+pub fn strange_edges(edges: &[u64], count: usize, n: u64) -> bool
+    requires { ⌜ 4 * count ≤ length (now edges) ⌝ }
+    ensures { λ r. ⌜ r ≡ any (strangeEdge n) (edgesOf count (now (edges .entry))) ⌝ }
+{
+    let mut i: usize = 0;
+    while i < count {
+        if strange(edges, i, n) {
+            return true;
+        }
+        i += 1;
+    }
+    false
+}
+
+// Whether edge i has an end that is not below n.
+fn strange(edges: &[u64], i: usize, n: u64) -> bool
+    requires { ⌜ 4 * i + 4 ≤ length (now edges) ⌝ }
+    ensures { λ r. ⌜ r ≡ strangeEdge n (edgeAt (now (edges .entry)) i) ⌝ }
+{
+    n <= edges[4 * i] || n <= edges[4 * i + 1]
+}
+
+// 11: whether an edge stands twice or leads to its own source. From the end, as the rules tell a
+// second edge: by those behind it.
+pub fn bad_edges(edges: &[u64], count: usize) -> bool
+    requires { ⌜ (4 * count ≤ length (now edges)) × (any (strangeEdge 64) (edgesOf count (now edges)) ≡ false) ⌝ }
+    ensures { λ r. ⌜ r ≡ badEdges (edgesOf count (now (edges .entry))) ⌝ }
+{
+    let mut seen = [0u64; 64];
+    let mut i = count;
+    while 0 < i {
+        i -= 1;
+        if meet(edges, i, &mut seen) {
+            return true;
+        }
+    }
+    false
+}
+
+// Whether edge i leads to its own source or its pair was seen; if neither, it is seen now.
+fn meet(edges: &[u64], i: usize, seen: &mut [u64]) -> bool
+    requires { ⌜ (4 * i + 4 ≤ length (now edges)) × (length (now seen) ≡ 64) × (strangeEdge 64 (edgeAt (now edges) i) ≡ false) ⌝ }
+    ensures { λ r. ⌜ Met (edgeAt (now (edges .entry)) i) (now (seen .entry)) (now (seen .exit)) r ⌝ }
+{
+    let from = edges[4 * i];
+    let to = edges[4 * i + 1];
+    if from == to {
+        return true;
+    }
+    let at = from as usize;
+    let row = seen[at];
+    if (row >> to) % 2 == 1 {
+        return true;
+    }
+    seen[at] = row | (1u64 << to);
+    false
+}
