@@ -1,0 +1,4 @@
+pub mod Table
+pub mod Judged
+pub mod Passing
+pub mod Samples

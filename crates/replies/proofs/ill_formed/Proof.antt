@@ -1,0 +1,41 @@
+use borrow.Author.Needs.{needs}
+use Rattle.replies.proofs.Passing.{ill-fallen, ill-past, ill-unknown, ill-failed, ill-long}
+use Rattle.replies.proofs.ill_formed.Statement.{statement}
+use Rattle.replies.proofs.ill_formed.Tie as tie
+
+returns : tie.Need-returns
+returns c = search (ill-fallen, needs)
+
+returns-2 : tie.Need-returns-2
+returns-2 c = search (ill-past, needs)
+
+mul-if3 : tie.Need-mul-if3
+mul-if3 c = search needs
+
+shared-slice-read-if3 : tie.Need-shared-slice-read-if3
+shared-slice-read-if3 c = search needs
+
+returns-3 : tie.Need-returns-3
+returns-3 c = search (ill-unknown, needs)
+
+failed-requires : tie.Need-failed-requires
+failed-requires c κs = search needs
+
+returns-4 : tie.Need-returns-4
+returns-4 c = search (ill-failed, needs)
+
+returns-5 : tie.Need-returns-5
+returns-5 c = search (ill-long, needs)
+
+pub ill-formed-spec : {M : Type 1} → statement M
+ill-formed-spec =
+    tie.close
+    (tie.spec
+    returns
+    returns-2
+    mul-if3
+    shared-slice-read-if3
+    returns-3
+    failed-requires
+    returns-4
+    returns-5)

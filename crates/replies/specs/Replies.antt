@@ -1,0 +1,52 @@
+-- What 26 asks of a reply, with the batch as a table of places.
+use mathlib.Core.Path.{_≡_}
+use mathlib.Core.Bool.{Bool, false, not, _&&_, _||_}
+use mathlib.Core.List.{List, [], _∷_}
+use Prim.Native.Nat.{ℕ, suc, _<_}
+use lib.Dec.{ltb, eqb}
+use lib.ListN.{length, getD}
+use Rattle.rules.specs.Base.{if_then_else_, upTo, any, anyOf}
+use Rattle.rules.specs.State.{Event, most-processes, most-payload}
+use Rattle.rules.specs.HandBack.{Emission, failed, inBatch, malformed}
+use Rattle.records.specs.Records.{eventAt}
+
+-- Every event's process has a place in a table.
+unfoldable pub Owners : ℕ → List ℕ → Type 0
+Owners n w = (i : ℕ) → i < n → eventAt w i .destination < 64
+
+-- The place of p's first event, counted from 1, or 0 if it has none; the first of the list has place i + 1.
+unfoldable pub placeFrom : ℕ → List Event → ℕ → ℕ
+placeFrom i [] p = 0
+placeFrom i (e ∷ es) p = if eqb (e .destination) p then suc i else placeFrom (suc i) es p
+
+-- The table t holds the place of every process's event in the batch q. Past its end it reads 0: such a process has none.
+unfoldable pub Places : List Event → List ℕ → Type 0
+Places q t = (p : ℕ) → getD t p 0 ≡ placeFrom 0 q p
+
+-- "an emitter or failed process isn't in the batch": of a process, and of the mask.
+abbrev pub strange : List Event → ℕ → ℕ → Bool
+strange q mask p = failed mask p && not (inBatch q p)
+
+unfoldable pub strangeMask : List Event → ℕ → Bool
+strangeMask q mask = any (strange q mask) (upTo most-processes)
+
+-- The same sentence of one emission, `last` being the emitter before it, and of emissions in turn.
+unfoldable pub illFormed : List Event → ℕ → ℕ → Emission → Bool
+illFormed q mask last x = anyOf (ltb (x .emitter) last ∷ not (inBatch q (x .emitter)) ∷ failed mask (x .emitter) ∷ ltb most-payload (length (x .message .payload)) ∷ [])
+
+unfoldable pub anyIllFormed : List Event → ℕ → ℕ → List Emission → Bool
+anyIllFormed q mask last [] = false
+anyIllFormed q mask last (x ∷ xs) = illFormed q mask last x || anyIllFormed q mask (x .emitter) xs
+
+-- The answers, for any batch that the table t is of.
+unfoldable pub Strange : ℕ → List ℕ → ℕ → Bool → Type 0
+Strange mask t p r = (q : List Event) → Places q t → r ≡ strange q mask p
+
+unfoldable pub StrangeMask : ℕ → List ℕ → Bool → Type 0
+StrangeMask mask t r = (q : List Event) → Places q t → r ≡ strangeMask q mask
+
+unfoldable pub IllFormed : ℕ → List ℕ → ℕ → Emission → Bool → Type 0
+IllFormed mask t last x r = (q : List Event) → Places q t → r ≡ illFormed q mask last x
+
+unfoldable pub Malformed : ℕ → List ℕ → List Emission → Bool → Type 0
+Malformed mask t xs r = (q : List Event) → Places q t → r ≡ malformed q mask xs
