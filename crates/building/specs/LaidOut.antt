@@ -1,0 +1,19 @@
+-- What an accepted build makes, and a head that stands for nothing made.
+use mathlib.Core.Path.{_≡_}
+use mathlib.Core.Bool.{false}
+use mathlib.Core.List.{List}
+use Prim.Native.Nat.{ℕ, _*_}
+use lib.ListN.{length, drop}
+use Rattle.words.specs.Words.{zeroes}
+use Rattle.rules.specs.Build.{setup, built}
+use Rattle.state.specs.declared.Head.{Head}
+use Rattle.state.specs.View.{view}
+
+-- "Once built, nothing is pending, ..": the head and the edges are those of the built state, where the horizons' words are zeros. The other words may be any.
+pub record LaysOut (n L : ℕ) (sources counts destinations entry exit : List ℕ) (r : Head) : Type 0 where
+  pub state : (ids P B : List ℕ) (k : ℕ) → view r exit P (zeroes k) B ≡ built (setup n L ids sources counts destinations)
+  pub behind : drop (4 * length destinations) exit ≡ drop (4 * length destinations) entry
+
+-- All zeros: a process count of 0 is foreign.
+abbrev pub noHead : Head
+noHead = record { n = 0; lookahead = record { hi = 0; lo = 0 }; edges = 0; pending = 0; batch = 0; next = 0; gvt = record { hi = 0; lo = 0 }; stored = false; horizon = record { hi = 0; lo = 0 }; budget = 0; used = 0; initial = false; running = false; poisoned = false }

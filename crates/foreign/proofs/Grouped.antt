@@ -1,0 +1,66 @@
+-- The clauses of 11, in the order of the rules and in the program's.
+use mathlib.Core.Path.{_≡_, refl, sym, _∙_}
+use mathlib.Core.Bool.{Bool, false, not, _||_, or-assoc, or-comm, or-false}
+use mathlib.Core.List.{List, [], _∷_}
+use Prim.Native.Nat.{ℕ, zero, suc, _*_}
+use native.Mathlib.Omega.{arith}
+use lib.Dec.{ltb, eqb}
+use lib.ListN.{length}
+use borrow.Author.Tests.{eq-eqb, lt-ltb}
+use Rattle.words.specs.Words.{tab, tickAt, horizonsOf}
+use Rattle.words.proofs.Tab.{length-tab}
+use Rattle.records.specs.Records.{edgeAt, eventAt, edgesOf, eventsOf}
+use Rattle.rules.specs.Base.{any, anyOf, nonEmpty}
+use Rattle.rules.specs.Foreign.{overLimit, strangeId, foreign}
+use Rattle.rules.proofs.Tests.{not-of-true}
+use Rattle.state.specs.declared.Head.{Head}
+use Rattle.state.specs.declared.Runtime.{Runtime}
+use Rattle.state.specs.View.{viewOf}
+use Rattle.foreign.specs.Tests.{headTests, edgeTests, pendingTests, batchTests, IsForeign}
+
+or-swap : (a b c : Bool) → a || (b || c) ≡ b || (a || c)
+or-swap a b c = sym (or-assoc a b c) ∙ rw (or-comm a b) (or-assoc b a c)
+
+-- The program's order, and that of the rules.
+regrouped : (no-process many-processes no-lookahead many-edges many-pending many-batch top-horizon no-horizon no-run strange-edge bad-edge strange-pending long-pending order-pending late-pending strange-batch long-batch order-batch : Bool)
+    → anyOf (
+    anyOf (anyOf (no-process ∷ many-processes ∷ no-lookahead ∷ []) ∷ anyOf (many-edges ∷ many-pending ∷ many-batch ∷ []) ∷ anyOf (top-horizon ∷ no-horizon ∷ no-run ∷ []) ∷ [])
+    ∷ anyOf (strange-edge ∷ bad-edge ∷ [])
+    ∷ anyOf ((strange-pending || long-pending) ∷ order-pending ∷ late-pending ∷ [])
+    ∷ anyOf ((strange-batch || long-batch) ∷ order-batch ∷ [])
+    ∷ [])
+    ≡ anyOf (
+    (no-process || many-processes)
+    ∷ no-lookahead
+    ∷ anyOf (many-edges ∷ many-pending ∷ many-batch ∷ long-pending ∷ long-batch ∷ [])
+    ∷ anyOf (strange-edge ∷ strange-pending ∷ strange-batch ∷ [])
+    ∷ bad-edge
+    ∷ order-pending
+    ∷ late-pending
+    ∷ top-horizon
+    ∷ no-horizon
+    ∷ no-run
+    ∷ order-batch
+    ∷ false
+    ∷ [])
+unfolding anyOf any
+regrouped no-process many-processes no-lookahead many-edges many-pending many-batch top-horizon no-horizon no-run strange-edge bad-edge strange-pending long-pending order-pending late-pending strange-batch long-batch order-batch = simp (or-assoc, or-comm, or-swap, or-false)
+
+some-tab : {A : Type 0} (f : ℕ → A) (i n : ℕ) → nonEmpty (tab f i n) ≡ ltb 0 n
+unfolding nonEmpty tab
+some-tab f i zero = refl
+some-tab f i (suc n) = sym (lt-ltb 0 (suc n) (omega arith))
+
+-- What the program's tests say of a head and its arrays is what the rule says.
+pub ruled : (h : Head) (edges pending batch : List ℕ) (r : Bool)
+    → r ≡ anyOf (anyOf (headTests h) ∷ anyOf (edgeTests (h .n) (edgesOf (h .edges) edges)) ∷ anyOf (pendingTests (h .n) (h .next) (eventsOf (h .pending) pending)) ∷ anyOf (batchTests (h .n) (eventsOf (h .batch) batch)) ∷ [])
+    → IsForeign h edges pending batch r
+unfolding IsForeign foreign overLimit strangeId
+ruled h edges pending batch r e horizons =
+    let w : not (eqb (length (horizonsOf (h .n) horizons)) (h .n)) ≡ false = not-of-true _ (eq-eqb _ _ (length-tab (λ i. tickAt horizons (2 * i)) 0 (h .n))) in
+    rw (w, length-tab (edgeAt edges) 0 (h .edges), length-tab (eventAt pending) 0 (h .pending), length-tab (eventAt batch) 0 (h .batch), some-tab (eventAt batch) 0 (h .batch))
+    (e ∙ regrouped _ _ _ _ _ _ _ _ _ _ _ _ _ _ _ _ _ _)
+
+pub whole : (s : Runtime) (x : Bool) → IsForeign (s .head) (s .edges) (s .pending) (s .batch) x → x ≡ foreign (viewOf s)
+unfolding IsForeign
+whole s x i = i (s .horizons)

@@ -1,0 +1,4 @@
+pub mod Chain
+pub mod Heads
+pub mod Ends
+pub mod Grouped

@@ -1,0 +1,48 @@
+-- The tests of 11 by what the program reads for them: the head, the edges, the pending events, the batch.
+use mathlib.Core.Path.{_≡_}
+use mathlib.Core.Bool.{Bool, not, _&&_}
+use mathlib.Core.List.{List, [], _∷_}
+use Prim.Native.Nat.{ℕ}
+use lib.Dec.{ltb, eqb}
+use Rattle.types.specs.Value.{value, span}
+use Rattle.rules.specs.Base.{any, anyOf, rising}
+use Rattle.rules.specs.State.{Event, Edge, Stored, most-processes, most-edges, most-pending}
+use Rattle.rules.specs.Pending.{before}
+use Rattle.rules.specs.Foreign.{strangeEdge, badEdges, atTop, isUnset, byProcess, foreign}
+use Rattle.events.specs.Clauses.{oddEvents, lateEvents}
+use Rattle.state.specs.declared.Head.{Head}
+use Rattle.state.specs.View.{view, storedOf}
+
+-- "a process count outside 1 to 64, L = 0"
+abbrev pub sizeTests : Head → List Bool
+sizeTests h = eqb (h .n) 0 ∷ ltb most-processes (h .n) ∷ eqb (span (h .lookahead)) 0 ∷ []
+
+-- "a count .. over its limit"
+abbrev pub countTests : Head → List Bool
+countTests h = ltb most-edges (h .edges) ∷ ltb most-pending (h .pending) ∷ ltb most-processes (h .batch) ∷ []
+
+-- "a stored horizon of 2^128 - 1, an open run without a stored horizon, a batch without an open run"
+abbrev pub storedIn : Head → Stored
+storedIn h = storedOf (h .stored) (value (h .horizon)) (h .budget)
+
+abbrev pub runTests : Head → List Bool
+runTests h = atTop (storedIn h) ∷ (h .running && isUnset (storedIn h)) ∷ (ltb 0 (h .batch) && not (h .running)) ∷ []
+
+abbrev pub headTests : Head → List Bool
+headTests h = anyOf (sizeTests h) ∷ anyOf (countTests h) ∷ anyOf (runTests h) ∷ []
+
+-- "an id not below n, an edge twice or to its own source"
+abbrev pub edgeTests : ℕ → List Edge → List Bool
+edgeTests n es = any (strangeEdge n) es ∷ badEdges es ∷ []
+
+-- "a .. length over its limit, an id not below n, .. pending events not strictly rising .., a pending sequence not below the next one"
+abbrev pub pendingTests : ℕ → ℕ → List Event → List Bool
+pendingTests n next q = oddEvents n q ∷ not (rising before q) ∷ lateEvents next q ∷ []
+
+-- "a .. length over its limit, an id not below n, .. or a batch not strictly rising by process"
+abbrev pub batchTests : ℕ → List Event → List Bool
+batchTests n bs = oddEvents n bs ∷ not (rising byProcess bs) ∷ []
+
+-- The answer is the rule's, whatever the words of the local horizons are.
+unfoldable pub IsForeign : Head → List ℕ → List ℕ → List ℕ → Bool → Type 0
+IsForeign h edges pending batch r = (horizons : List ℕ) → r ≡ foreign (view h edges pending horizons batch)

@@ -1,0 +1,141 @@
+-- What each return of hand back gives.
+use mathlib.Core.Path.{_≡_, refl, sym, ap, _∙_}
+use mathlib.Core.Bool.{Bool, true, false, not}
+use mathlib.Core.List.{List, []}
+use Prim.Native.Nat.{ℕ, _*_, _/_, _≤_, _<_}
+use native.Mathlib.Omega.{arith}
+use lib.ListN.{length}
+use Rattle.words.specs.Words.{tab}
+use Rattle.records.specs.Records.{eventAt, eventsOf}
+use Rattle.rules.specs.Base.{if_then_else_, nonEmpty}
+use Rattle.rules.specs.State as R
+use Rattle.rules.specs.State.{Event, State, poison}
+use Rattle.rules.specs.Answers as A
+use Rattle.rules.specs.Rows.{unless, Out, out, refuse}
+use Rattle.rules.specs.Foreign.{foreign}
+use Rattle.rules.specs.HandBack.{Emission, malformed, processRows, backRows, lose, commitAt, handBack}
+use Rattle.rules.proofs.Tests.{not-both, not-true, not-false}
+use Rattle.rules.proofs.Table.{unless-append}
+use Rattle.replies.specs.Emissions.{emissionsOf}
+use Rattle.replies.specs.Replies.{Owners, Places, Malformed}
+use Rattle.judging.specs.declared.Verdict.{Verdict}
+use Rattle.judging.specs.Judges.{Judges}
+use Rattle.judging.specs.Turns.{Judgeable, Replied, JudgesReply}
+use Rattle.state.specs.declared.Head.{Head}
+use Rattle.state.specs.declared.Counters.{Counters}
+use Rattle.state.specs.declared.After.{After}
+use Rattle.state.specs.declared.Answer.the-variants as P
+use Rattle.state.specs.View.{view, countersOf, answerOf}
+use Rattle.state.specs.Kept.{unmoved}
+use Rattle.state.specs.Lent.{Lent}
+use Rattle.state.proofs.Facts.{some-events, no-events, few-processes, few-edges, few-batch, batch-owners, batch-order}
+use Rattle.state.proofs.Moves.{committed-moves, lost-moves}
+use Rattle.handing.specs.Hands.{Loses, lastRows, settled, Settleable, Settles, HandsBack}
+
+none-is : (es : List Event) → es ≡ [] → nonEmpty es ≡ false
+unfolding nonEmpty
+none-is es e = rw e
+
+-- The rows, each with those before it passed.
+module _ (s : State) (c : R.Counters) (mask : ℕ) (xs : List Emission) (f : foreign s ≡ false) where
+  row-12 : s .poisoned ≡ true → handBack s c mask xs ≡ refuse s c A.Poisoned
+  unfolding handBack unless if_then_else_
+  row-12 p = rw (f, p)
+
+  module _ (p : s .poisoned ≡ false) where
+    row-25 : nonEmpty (s .batch) ≡ false → handBack s c mask xs ≡ refuse s c A.NoBatch
+    unfolding handBack unless if_then_else_
+    row-25 b = rw (f, p, b)
+
+    module _ (b : nonEmpty (s .batch) ≡ true) where
+      row-26 : malformed (s .batch) mask xs ≡ true → handBack s c mask xs ≡ refuse s c A.MalformedReply
+      unfolding handBack unless if_then_else_
+      row-26 m = rw (f, p, b, m)
+
+      passed : malformed (s .batch) mask xs ≡ false → (x : Out) → unless (backRows s mask xs) (refuse s c) x ≡ x
+      unfolding unless if_then_else_
+      passed m x = rw (f, p, b, m)
+
+      judged : malformed (s .batch) mask xs ≡ false → handBack s c mask xs ≡ unless (processRows s mask xs (s .batch)) (lose s c) (settled s c xs)
+      unfolding handBack settled
+      judged m = passed m _ ∙ unless-append (processRows s mask xs (s .batch)) (lastRows s xs) (lose s c) (commitAt s c (s .stored) xs)
+
+-- The reply's words make whole emissions.
+whole : (w : List ℕ) → 8 * (length w / 8) ≤ length w
+whole w = omega arith
+
+-- The words of the batch are there, and its processes have places in a table.
+pub findable : (h : Head) (E Q Z B : List ℕ) → Lent h E Q Z B → (8 * h .batch ≤ length B) × Owners (h .batch) B
+unfolding Owners
+findable h E Q Z B l = (omega (arith, few-batch h E Q Z B (l .passes), l .batch-words), batch-owners h E Q Z B (l .passes))
+
+module _ (h : Head) (c : Counters) (E Q Z B : List ℕ) (mask : ℕ) (w : List ℕ) (l : Lent h E Q Z B) where
+  pub back-dead : h .poisoned ≡ true → HandsBack h c E Q Z B mask (emissionsOf (length w / 8) w) (record { answer = P.Poisoned; head = h; counters = c }) Q Z B
+  back-dead p = record {
+    gives = sym (row-12 (view h E Q Z B) (countersOf c) mask (emissionsOf (length w / 8) w) (l .passes) p);
+    kept = λ es x. record { same-head = refl; same-counters = refl; same-edges = refl; same-pending = refl; same-horizons = refl; same-batch = refl };
+  }
+
+  module _ (p : h .poisoned ≡ false) where
+    pub back-empty : h .batch ≡ 0 → HandsBack h c E Q Z B mask (emissionsOf (length w / 8) w) (record { answer = P.NoBatch; head = h; counters = c }) Q Z B
+    back-empty e = record {
+      gives = sym (row-25 (view h E Q Z B) (countersOf c) mask (emissionsOf (length w / 8) w) (l .passes) p (none-is _ (no-events (eventAt B) 0 (h .batch) (omega arith))));
+      kept = λ es x. record { same-head = refl; same-counters = refl; same-edges = refl; same-pending = refl; same-horizons = refl; same-batch = refl };
+    }
+
+    module _ (n : h .batch ≡ 0 → ⊥) where
+      in-hand : 0 < h .batch
+      in-hand = omega arith
+
+      held : nonEmpty (eventsOf (h .batch) B) ≡ true
+      held = some-events (eventAt B) 0 (h .batch) in-hand
+
+      module _ (T : List ℕ) (t : Bool) (pl : Places (eventsOf (h .batch) B) T) (ma : Malformed mask T (emissionsOf (length w / 8) w) t) where
+        malformed-is : (b : Bool) → t ≡ b → malformed (eventsOf (h .batch) B) mask (emissionsOf (length w / 8) w) ≡ b
+        unfolding Malformed
+        malformed-is b e = sym (ma (eventsOf (h .batch) B) pl) ∙ e
+
+        pub back-malformed : t ≡ true → HandsBack h c E Q Z B mask (emissionsOf (length w / 8) w) (record { answer = P.MalformedReply; head = h; counters = c }) Q Z B
+        back-malformed e = record {
+          gives = sym (row-26 (view h E Q Z B) (countersOf c) mask (emissionsOf (length w / 8) w) (l .passes) p held (malformed-is true e));
+          kept = λ es x. record { same-head = refl; same-counters = refl; same-edges = refl; same-pending = refl; same-horizons = refl; same-batch = refl };
+        }
+
+        module _ (e : t ≡ false) where
+          pub judgeable : Judgeable h E Z × Replied (h .batch) B mask (length w / 8) w
+          judgeable = (
+            record { few = few-processes h E Q Z B (l .passes); edge-words = omega (arith, few-edges h E Q Z B (l .passes), l .edge-words); horizon-words = l .horizon-words },
+            record { batch-words = findable h E Q Z B l .0; reply-words = whole w; owners = findable h E Q Z B l .1; order = batch-order h E Q Z B (l .passes); formed = malformed-is false e },
+          )
+
+          pub settleable : Settleable h E Q Z B w (length w / 8)
+          settleable = record { lent = l; in-hand = in-hand; words = whole w }
+
+          module _ (v : Verdict) (ju : JudgesReply h E Z B mask (length w / 8) w v) where
+            verdict : Judges (processRows (view h E Q Z B) mask (emissionsOf (length w / 8) w) (eventsOf (h .batch) B)) v
+            unfolding JudgesReply
+            verdict = ju Q
+
+            refused : (d : Out) → not (v .sound) ≡ true → (es : List Event) → unless (processRows (view h E Q Z B) mask (emissionsOf (length w / 8) w) (eventsOf (h .batch) B)) (lose (view h E Q Z B) (countersOf c)) d ≡ out (answerOf es (v .answer)) (poison (view h E Q Z B)) (countersOf c)
+            refused d u es = verdict .refused (not-true _ u) (view h E Q Z B) (countersOf c) d es
+
+            -- Its answer is none that leaves the state as given, as one that follows the rows.
+            lost : not (v .sound) ≡ true → (es : List Event) → unmoved (answerOf es (v .answer)) ≡ false
+            lost u es =
+                let d : Out = out (A.Committed 0) (view h E Q Z B) (countersOf c) in
+                ap (λ (o : Out). unmoved (o .answer)) (sym (refused d u es))
+                ∙ lost-moves (view h E Q Z B) (view h E Q Z B) (countersOf c) mask (emissionsOf (length w / 8) w) (eventsOf (h .batch) B) d (committed-moves 0)
+
+            pub back-lost : not (v .sound) ≡ true → (r : After) (B′ : List ℕ) → Loses (v .answer) h c r → HandsBack h c E Q Z B mask (emissionsOf (length w / 8) w) r Q Z B′
+            unfolding tab
+            back-lost u r B′ d = rw d (record {
+              gives = sym (judged (view h E Q Z B) (countersOf c) mask (emissionsOf (length w / 8) w) (l .passes) p held (malformed-is false e) ∙ refused (settled (view h E Q Z B) (countersOf c) (emissionsOf (length w / 8) w)) u []);
+              kept = λ es x. not-both x (lost u es);
+            })
+
+            pub back-settled : not (v .sound) ≡ false → (r : After) (Q′ Z′ B′ : List ℕ) → Settles h c E Q Z B (emissionsOf (length w / 8) w) r Q′ Z′ B′ → HandsBack h c E Q Z B mask (emissionsOf (length w / 8) w) r Q′ Z′ B′
+            back-settled u r Q′ Z′ B′ d = record {
+              gives = d .gives ∙ sym (judged (view h E Q Z B) (countersOf c) mask (emissionsOf (length w / 8) w) (l .passes) p held (malformed-is false e)
+                  ∙ verdict .passed (not-false _ u) (lose (view h E Q Z B) (countersOf c)) (settled (view h E Q Z B) (countersOf c) (emissionsOf (length w / 8) w)));
+              kept = λ es x. not-both x (d .moves es);
+            }

@@ -1,0 +1,4 @@
+pub mod Verdicts
+pub mod Rows
+pub mod Walk
+pub mod Passes

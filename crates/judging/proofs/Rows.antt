@@ -1,0 +1,123 @@
+-- What each return of the rows of one emission gives.
+use mathlib.Core.Path.{_≡_, refl, sym, ap, _∙_}
+use mathlib.Core.Bool.{Bool, true, false, not}
+use mathlib.Core.List.{List}
+use Prim.Native.Nat.{ℕ, zero, suc, _+_, _-_, _*_, _^_, _≤_, _<_}
+use native.Mathlib.Omega.{arith}
+use lib.Dec.{leb, ltb, eqb}
+use lib.ListN.{getD}
+use borrow.Author.Tests.{lt-ltb, le-ltb, le-leb, lt-leb, eq-eqb, ne-eqb}
+use Rattle.types.specs.declared.SimTime.{SimTime}
+use Rattle.types.specs.declared.SimDuration.{SimDuration}
+use Rattle.types.specs.declared.Added.{Added}
+use Rattle.types.specs.declared.Added.the-variants.{Sum, Overflow}
+use Rattle.types.specs.Value.{halves, value, span, Adds}
+use Rattle.types.proofs.Halves.{Whole, halves-fit}
+use Rattle.words.specs.Words.{tab, tickAt, horizonsOf}
+use Rattle.rules.specs.Base.{if_then_else_}
+use Rattle.rules.specs.Answers as A
+use Rattle.rules.specs.Pending.{route}
+use Rattle.rules.specs.HandBack.{minimum}
+use Rattle.records.specs.Records.{edgesOf}
+use Rattle.replies.specs.declared.Emission.{Emission}
+use Rattle.replies.specs.Emissions.{emissionOf}
+use Rattle.state.specs.declared.Head.{Head}
+use Rattle.state.specs.declared.Answer.the-variants as P
+use Rattle.judging.specs.declared.Verdict.{Verdict}
+use Rattle.judging.specs.Judges.{Judges, tickRows, rowsOf}
+use Rattle.judging.specs.Turns.{JudgesOne}
+use Rattle.judging.proofs.Verdicts.{refusing, sound, nothing, struck, go-by}
+
+-- The minimum.
+module _ (e : Emission) (time : SimTime) (l : SimDuration) where
+  abbrev least : ℕ
+  least = minimum (span l) (e .emitter) (value time) (emissionOf e .message)
+
+  pub own-minimum : e .dst ≡ e .emitter → Whole (time .hi) (time .lo) → Adds least (Sum time)
+  unfolding minimum if_then_else_
+  own-minimum d w = rw (eq-eqb (e .dst) (e .emitter) d) (halves-fit (time .hi) (time .lo) w, refl)
+
+  pub far-minimum : (e .dst ≡ e .emitter → ⊥) → (r : Added) → Adds (value time + span l) r → Adds least r
+  unfolding minimum if_then_else_
+  far-minimum n r a = rw (ne-eqb (e .dst) (e .emitter) n) a
+
+-- A list by index at one of its places.
+tab-at : (f : ℕ → ℕ) (i n d : ℕ) → d < n → getD (tab f i n) d 0 ≡ f (i + d)
+unfolding tab
+tab-at f i zero d h = absurd (omega arith)
+tab-at f i (suc n) zero h = let e : i + 0 ≡ i = omega arith in rw e
+tab-at f i (suc n) (suc d) h = let e : suc i + d ≡ i + suc d = omega arith in tab-at f (suc i) n d (omega arith) ∙ rw e
+
+local-at : (Z : List ℕ) (n d : ℕ) → d < n → getD (horizonsOf n Z) d 0 ≡ tickAt Z (2 * d)
+local-at Z n d h = let e : 0 + d ≡ d = omega arith in rw e at (tab-at (λ (i : ℕ). tickAt Z (2 * i)) 0 n d h)
+
+-- 32 and 33.
+module _ (Z : List ℕ) (e : Emission) (time least : SimTime) (x : Bool) (early : x ≡ ltb (halves (e .hi) (e .lo)) (value least)) where
+  abbrev rows : Verdict → Type 0
+  rows v = Judges (tickRows (emissionOf e) (value time) (value least) (tickAt Z (2 * e .dst))) v
+
+  pub violation : x ≡ true → rows (refusing (P.OutboundLookaheadViolation (e .emitter) time (record { hi = e .hi; lo = e .lo }) least))
+  unfolding tickRows
+  violation t = struck _ _ _ (sym early ∙ t) (λ es. refl)
+
+  module _ (t : x ≡ false) (local : SimTime) (l : value local ≡ tickAt Z (2 * e .dst)) (y : Bool) (late : y ≡ ltb (halves (e .hi) (e .lo)) (value local)) where
+    late-as : (u : Bool) → y ≡ u → ltb (halves (e .hi) (e .lo)) (tickAt Z (2 * e .dst)) ≡ u
+    late-as u k = ap (ltb (halves (e .hi) (e .lo))) (sym l) ∙ sym late ∙ k
+
+    pub straggler : y ≡ true → rows (refusing (P.Straggler (e .dst) (record { hi = e .hi; lo = e .lo }) local))
+    unfolding tickRows
+    straggler u = go-by _ _ _ (sym early ∙ t) (struck _ _ _ (late-as true u) (λ es. ap (λ (k : ℕ). A.Refused (A.Straggler (e .dst) (halves (e .hi) (e .lo)) k)) l))
+
+    pub in-time : y ≡ false → rows sound
+    unfolding tickRows
+    in-time u = go-by _ _ _ (sym early ∙ t) (go-by _ _ _ (late-as false u) nothing)
+
+-- 31 over any B: 2 ^ 128 has more digits than omega takes.
+over : (B n : ℕ) → 0 < B → B ≤ n → ltb (B - 1) n ≡ true
+over B n p h = lt-ltb (B - 1) n (omega arith)
+
+fits : (B n : ℕ) → n < B → ltb (B - 1) n ≡ false
+fits B n h = le-ltb (B - 1) n (omega arith)
+
+positive : 0 < 2 ^ 128
+unfolding halves
+positive = halves-fit 0 0 (record { upper = omega arith; lower = omega arith })
+
+-- 28 to 33, each row with those before it passed.
+module _ (h : Head) (E Z : List ℕ) (e : Emission) (time : SimTime) where
+  pub mismatch : (e .src ≡ e .emitter → ⊥) → JudgesOne h E Z e time (refusing (P.OutboundSourceMismatch (e .emitter) (e .src)))
+  unfolding JudgesOne rowsOf
+  mismatch n Q B = struck _ _ _ (ap not (ne-eqb (e .src) (e .emitter) n)) (λ es. refl)
+
+  module _ (a : e .src ≡ e .emitter) where
+    own : not (eqb (e .src) (e .emitter)) ≡ false
+    own = ap not (eq-eqb (e .src) (e .emitter) a)
+
+    pub unknown : h .n ≤ e .dst → JudgesOne h E Z e time (refusing (P.UnknownOutboundDestination (e .dst)))
+    unfolding JudgesOne rowsOf
+    unknown l Q B = go-by _ _ _ own (struck _ _ _ (le-leb (h .n) (e .dst) l) (λ es. refl))
+
+    module _ (l : e .dst < h .n) (t : Bool) (et : t ≡ route (edgesOf (h .edges) E) (e .emitter) (e .dst)) where
+      known : leb (h .n) (e .dst) ≡ false
+      known = lt-leb (h .n) (e .dst) l
+
+      pub unrouted : t ≡ false → JudgesOne h E Z e time (refusing (P.OutboundRouteMissing (e .emitter) (e .dst)))
+      unfolding JudgesOne rowsOf
+      unrouted u Q B = go-by _ _ _ own (go-by _ _ _ known (struck _ _ _ (ap not (sym et ∙ u)) (λ es. refl)))
+
+      module _ (u : t ≡ true) (m : Added) (s : Adds (least e time (h .lookahead)) m) where
+        routed : not (route (edgesOf (h .edges) E) (e .emitter) (e .dst)) ≡ false
+        routed = ap not (sym et ∙ u)
+
+        pub overflow : m ≡ Overflow → JudgesOne h E Z e time (refusing (P.LookaheadOverflow (e .emitter) time (h .lookahead)))
+        unfolding JudgesOne rowsOf
+        overflow o Q B =
+            let k : 2 ^ 128 ≤ least e time (h .lookahead) = rw o at s in
+            go-by _ _ _ own (go-by _ _ _ known (go-by _ _ _ routed (struck _ _ _ (over (2 ^ 128) _ positive k) (λ es. refl))))
+
+        pub timed : (t : SimTime) → m ≡ Sum t → (v : Verdict) → Judges (tickRows (emissionOf e) (value time) (value t) (tickAt Z (2 * e .dst))) v → JudgesOne h E Z e time v
+        unfolding JudgesOne rowsOf tickRows
+        timed t o v j Q B =
+            let k : (least e time (h .lookahead) < 2 ^ 128) × (value t ≡ least e time (h .lookahead)) = rw o at s in
+            let z : getD (horizonsOf (h .n) Z) (e .dst) 0 ≡ tickAt Z (2 * e .dst) = local-at Z (h .n) (e .dst) l in
+            go-by _ _ _ own (go-by _ _ _ known (go-by _ _ _ routed (go-by _ _ _ (fits (2 ^ 128) _ (k .0)) (rw (z, ← k .1) j))))

@@ -1,0 +1,30 @@
+-- What a verdict says, and the rows of one emission.
+use mathlib.Core.Path.{_≡_}
+use mathlib.Core.Bool.{true, false}
+use mathlib.Core.List.{List, [], _∷_, _++_}
+use Prim.Native.Nat.{ℕ}
+use lib.Dec.{ltb}
+use Rattle.rules.specs.State.{Event, State, Counters, poison}
+use Rattle.rules.specs.Answers as A
+use Rattle.rules.specs.Answers.{Refusal}
+use Rattle.rules.specs.Rows.{Row, _⇒_, unless, Out, out}
+use Rattle.rules.specs.Pending.{route}
+use Rattle.rules.specs.HandBack.{Emission, messageRows, stragglerRow, lose}
+use Rattle.state.specs.View.{answerOf}
+use Rattle.judging.specs.declared.Verdict.{Verdict}
+
+-- What a verdict says of a table of rows that poison.
+pub record Judges (rows : List Row) (v : Verdict) : Type 0 where
+  pub passed : v .sound ≡ true → (f : Refusal → Out) (d : Out) → unless rows f d ≡ d
+  pub refused : v .sound ≡ false → (s : State) (c : Counters) (d : Out) (es : List Event) → unless rows (lose s c) d ≡ out (answerOf es (v .answer)) (poison s) c
+
+-- 32 and 33 of the emission x, whose event has the tick t, by its minimum and its destination's local horizon.
+unfoldable pub tickRows : Emission → ℕ → ℕ → ℕ → List Row
+tickRows x t least local =
+    (ltb (x .message .tick) least ⇒ A.OutboundLookaheadViolation (x .emitter) t (x .message .tick) least)
+    ∷ (ltb (x .message .tick) local ⇒ A.Straggler (x .message .destination) (x .message .tick) local)
+    ∷ []
+
+-- 28 to 33 of the emission x, whose event has the tick t.
+unfoldable pub rowsOf : State → ℕ → Emission → List Row
+rowsOf s t x = messageRows (s .n) (route (s .edges)) (s .lookahead) (x .emitter) t (x .message) ++ (stragglerRow s (x .message) ∷ [])

@@ -1,0 +1,4 @@
+pub mod View
+pub mod Heads
+pub mod Lent
+pub mod Kept

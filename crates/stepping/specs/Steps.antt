@@ -1,0 +1,54 @@
+-- What the core of a step asks and leaves, in the words of the rules.
+use mathlib.Core.Path.{_≡_}
+use mathlib.Core.Bool.{true, false}
+use mathlib.Core.List.{List}
+use Prim.Native.Nat.{ℕ, suc, _≤_, _<_}
+use lib.ListN.{length}
+use Rattle.types.specs.Value.{value}
+use Rattle.records.specs.Records.{edgesOf, eventsOf}
+use Rattle.rules.specs.Base.{rising, nonEmpty}
+use Rattle.rules.specs.State.{Event, State, withBatch}
+use Rattle.rules.specs.Pending.{before}
+use Rattle.rules.specs.Rows.{out}
+use Rattle.rules.specs.Step.{takenAt, stepRun, step}
+use Rattle.rules.proofs.Lists.{All}
+use Rattle.rules.proofs.Cases
+use Rattle.frontiers.specs.Tables.{Fronts}
+use Rattle.state.specs.declared.Head.{Head}
+use Rattle.state.specs.declared.Counters.{Counters}
+use Rattle.state.specs.View.{view, countersOf, answerOf}
+use Rattle.state.specs.Heads.{withCounts}
+use Rattle.state.specs.Kept.{unmoved, Same}
+use Rattle.state.specs.declared.After.{After}
+
+pub record Takeable (h : Head) (pending safe batch : List ℕ) : Type 0 where
+  pub few-processes : h .n ≤ 64
+  pub few-pending : h .pending ≤ 512
+  pub pending-words : length pending ≡ 4096
+  pub safe-words : length safe ≡ 128
+  pub batch-words : length batch ≡ 512
+  pub order : rising before (eventsOf (h .pending) pending) ≡ true
+  pub known : All (λ (e : Event). e .destination < h .n) (eventsOf (h .pending) pending)
+
+-- The batch of the rules is in hand, whatever the edges with these frontiers and the local horizons are.
+pub record HandsOut (h : Head) (pending safe batch : List ℕ) (r : Head) (pending′ batch′ : List ℕ) : Type 0 where
+  pub head : r ≡ withCounts h (r .pending) (r .batch)
+  pub state : (E Z : List ℕ) → Fronts (edgesOf (h .edges) E) (suc (value (h .horizon))) safe
+      → let s = view h E pending Z batch in let t = takenAt s (value (h .horizon)) (h .budget) in view r E pending′ Z batch′ ≡ withBatch s (t .events) (t .left)
+  pub none : r .batch ≡ 0 → (r .pending ≡ h .pending) × (eventsOf (r .pending) pending′ ≡ eventsOf (h .pending) pending)
+
+-- A step of s, in a run with horizon h and budget b, that takes nothing.
+pub record Idle (s : State) (h b : ℕ) : Type 0 where
+  pub steps : Cases.Steps s h b
+  pub none-taken : nonEmpty (takenAt s h b .events) ≡ false
+
+-- Answer, state and counters are the rule's, whatever the batch is; and the answer is none that leaves the state as given.
+pub record GoesOn (h : Head) (c : Counters) (edges pending horizons safe : List ℕ) (r : After) (edges′ horizons′ : List ℕ) : Type 0 where
+  pub gives : (B : List ℕ) → Fronts (edgesOf (h .edges) edges) (suc (value (h .horizon))) safe → Idle (view h edges pending horizons B) (value (h .horizon)) (h .budget)
+      → out (answerOf (eventsOf (r .head .batch) B) (r .answer)) (view (r .head) edges′ pending horizons′ B) (countersOf (r .counters)) ≡ stepRun (view h edges pending horizons B) (countersOf c) (value (h .horizon)) (h .budget)
+  pub moves : (es : List Event) → unmoved (answerOf es (r .answer)) ≡ false
+
+-- What the core of a step promises.
+pub record Steps (h : Head) (c : Counters) (edges pending horizons batch : List ℕ) (r : After) (edges′ pending′ horizons′ batch′ : List ℕ) : Type 0 where
+  pub gives : out (answerOf (eventsOf (r .head .batch) batch′) (r .answer)) (view (r .head) edges′ pending′ horizons′ batch′) (countersOf (r .counters)) ≡ step (view h edges pending horizons batch) (countersOf c)
+  pub kept : (es : List Event) → unmoved (answerOf es (r .answer)) ≡ true → Same h c edges pending horizons batch r edges′ pending′ horizons′ batch′
