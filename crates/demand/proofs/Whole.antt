@@ -1,0 +1,52 @@
+-- What the check proves of each function is what a link of the theorem holds.
+use mathlib.Core.Path.{_≡_, ap, _∙_}
+use mathlib.Core.List.{List, [], _∷_, map}
+use Rattle.state.specs.declared.Runtime.{Runtime}
+use Rattle.state.specs.declared.Counters.{Counters}
+use Rattle.rules.specs.Rows.{Out}
+use Rattle.rules.specs.Build.{Setup}
+use Rattle.runtime.specs.declared.Built.{Built}
+use Rattle.runtime.specs.declared.Called.{Called}
+use Rattle.runtime.specs.Carries.{Carries}
+use Rattle.runtime.proofs.build.Met as build-met
+use Rattle.runtime.proofs.add_initial.Met as initial-met
+use Rattle.runtime.proofs.begin.Met as begin-met
+use Rattle.runtime.proofs.step.Met as step-met
+use Rattle.runtime.proofs.hand_back.Met as back-met
+use Rattle.reads.proofs.read_counters.Met as counters-met
+use Rattle.reads.proofs.read_pending.Met as pending-met
+use Rattle.demand.specs.Links.{Link, Carried}
+use Rattle.demand.specs.Proved.{Proved}
+use Rattle.demand.specs.Whole.{Asked, AddInitial, Begin, Step, HandBack, Done, Learns, Ran, callOf, linkOf, ReadAfter, Whole}
+use Rattle.demand.proofs.Demanded.{demand-3-of-the-program}
+
+carries : (s : Runtime) (c : Counters) (k : Asked) (r : Called) → Learns s c k r → Carries (callOf k) s c (r .answer) (r .state) (r .counters)
+carries s c (AddInitial m) r l = l
+carries s c (Begin h b) r l = l
+carries s c Step r l = l
+carries s c (HandBack κs mask reply) r l = l
+
+carried : (s : Runtime) (c : Counters) (ds : List Done) → Ran s c ds → Carried s c (map linkOf ds)
+carried s c [] i = tt
+carried s c (d ∷ ds) i = (carries s c (d .asked) (d .gave) (i .0), carried (d .gave .state) (d .gave .counters) ds (i .1))
+
+-- The reads of what the list left.
+read-after : (a : Setup) (r : Built) (ls : List Link) → Proved a r ls → ReadAfter r ls
+read-after a r ls p = record {
+  counters = λ x l. ap (λ (o : Out). o .answer) (l .gives) ∙ p .counters;
+  pending = λ x l. ap (λ (o : Out). o .answer) (l .gives) ∙ p .pending;
+}
+
+pub whole : {M : Type 1} → Whole M
+whole = record {
+  build-meets = build-met.met;
+  add-initial-meets = initial-met.met;
+  begin-meets = begin-met.met;
+  step-meets = step-met.met;
+  hand-back-meets = back-met.met;
+  read-counters-meets = counters-met.met;
+  read-pending-meets = pending-met.met;
+  demand-3 = λ κs n L ids sources counts ds c r b e xs i.
+      let p = demand-3-of-the-program _ c r b e (map linkOf xs) (carried (r .state) (r .counters) xs i) in
+      (p, read-after _ r (map linkOf xs) p);
+}

@@ -1,0 +1,94 @@
+-- Demand 3 of the functions themselves: what is known of each call is what the check proves of its function.
+use mathlib.Core.Path.{_≡_}
+use mathlib.Core.List.{List, [], _∷_, map}
+use Prim.Native.Nat.{ℕ, _/_}
+use lib.ListN.{length}
+use contract.Lifetimes.{Lfts}
+use denote.Ref.{RefT, now}
+use Rattle.types.specs.declared.SimTime.{SimTime}
+use Rattle.types.specs.declared.SimDuration.{SimDuration}
+use Rattle.types.specs.Value.{value, span}
+use Rattle.rules.specs.Answers.{Accepted, Read, Pending}
+use Rattle.rules.specs.Build.{setup}
+use Rattle.rules.specs.Calls as R
+use Rattle.rules.specs.Demand.{counts}
+use Rattle.replies.specs.Emissions.{emissionsOf}
+use Rattle.state.specs.declared.Runtime.{Runtime}
+use Rattle.state.specs.declared.Counters.{Counters}
+use Rattle.state.specs.declared.Message.{Message}
+use Rattle.state.specs.View.{viewOf, messageOf}
+use Rattle.building.specs.Answered.{answerOf}
+use Rattle.runtime.specs.declared.Built.{Built}
+use Rattle.runtime.specs.declared.Called.{Called}
+use Rattle.runtime.proofs.build.Reads as build
+use Rattle.runtime.proofs.add_initial.Reads as add-initial
+use Rattle.runtime.proofs.begin.Reads as begin
+use Rattle.runtime.proofs.step.Reads as step
+use Rattle.runtime.proofs.hand_back.Reads as hand-back
+use Rattle.runtime.proofs.build.Statement as build-statement
+use Rattle.runtime.proofs.add_initial.Statement as initial-statement
+use Rattle.runtime.proofs.begin.Statement as begin-statement
+use Rattle.runtime.proofs.step.Statement as step-statement
+use Rattle.runtime.proofs.hand_back.Statement as back-statement
+use Rattle.reads.proofs.read_counters.Reads as read-counters
+use Rattle.reads.proofs.read_pending.Reads as read-pending
+use Rattle.reads.proofs.read_counters.Statement as counters-statement
+use Rattle.reads.proofs.read_pending.Statement as pending-statement
+use Rattle.reads.specs.declared.ReadAnswer.{ReadAnswer}
+use Rattle.reads.specs.Reads.{readOf}
+use Rattle.demand.specs.Links.{Link, stateLeft, countersLeft, history}
+use Rattle.demand.specs.Proved.{Proved}
+
+-- A call as the program takes it: its arguments beside the runtime and the counters.
+pub data Asked : Type 0 where
+  AddInitial : Message → Asked
+  Begin : SimTime → ℕ → Asked
+  Step : Asked
+  HandBack : Lfts 1 → ℕ → RefT (List ℕ) → Asked
+
+-- A call and what it gave.
+pub record Done : Type 0 where
+  pub asked : Asked
+  pub gave : Called
+
+-- What the function's own contract tells its caller, called with the runtime s and the counters c.
+abbrev pub Learns : Runtime → Counters → Asked → Called → Type 0
+Learns s c (AddInitial m) r = add-initial.Learnt tt (s, (c, (m, tt))) r (s, (c, (m, tt)))
+Learns s c (Begin h b) r = begin.Learnt tt (s, (c, (h, (b, tt)))) r (s, (c, (h, (b, tt))))
+Learns s c Step r = step.Learnt tt (s, (c, tt)) r (s, (c, tt))
+Learns s c (HandBack κs mask reply) r = hand-back.Learnt κs (s, (c, (mask, (reply, tt)))) r (s, (c, (mask, (reply, tt))))
+
+-- Each call is made with the runtime and the counters that the one before gave.
+abbrev pub Ran : Runtime → Counters → List Done → Type 0
+Ran s c [] = Unit {0}
+Ran s c (d ∷ ds) = Learns s c (d .asked) (d .gave) × Ran (d .gave .state) (d .gave .counters) ds
+
+-- Which call of document 01 it is.
+abbrev pub callOf : Asked → R.Call
+callOf (AddInitial m) = R.AddInitial (messageOf m)
+callOf (Begin h b) = R.Begin (value h) b
+callOf Step = R.Step
+callOf (HandBack κs mask reply) = R.HandBack mask (emissionsOf (length (now reply) / 8) (now reply))
+
+abbrev pub linkOf : Done → Link
+linkOf d = record { call = callOf (d .asked); answer = d .gave .answer; state = d .gave .state; counters = d .gave .counters }
+
+-- "The counters read after the list equal these counts"; "Pending is what its read answers then": what the functions answer, called with what the list left.
+pub record ReadAfter (r : Built) (ls : List Link) : Type 0 where
+  pub counters : (a : ReadAnswer) → read-counters.Learnt tt (stateLeft (r .state) ls, (countersLeft (r .counters) ls, tt)) a (stateLeft (r .state) ls, (countersLeft (r .counters) ls, tt)) → readOf a ≡ Read (counts (history r ls .entries))
+  pub pending : (a : ReadAnswer) → read-pending.Learnt tt (stateLeft (r .state) ls, (countersLeft (r .counters) ls, tt)) a (stateLeft (r .state) ls, (countersLeft (r .counters) ls, tt)) → readOf a ≡ Read (Pending (length (viewOf (stateLeft (r .state) ls) .pending)))
+
+-- Each function meets its contract, and what the contracts tell of a build that is not refused and of the calls of any list after it gives demand 3.
+pub record Whole (M : Type 1) : Type 2 where
+  pub build-meets : build-statement.statement M
+  pub add-initial-meets : initial-statement.statement M
+  pub begin-meets : begin-statement.statement M
+  pub step-meets : step-statement.statement M
+  pub hand-back-meets : back-statement.statement M
+  pub read-counters-meets : counters-statement.statement M
+  pub read-pending-meets : pending-statement.statement M
+  pub demand-3 : (κs : Lfts 1) (n : ℕ) (L : SimDuration) (ids sources counts destinations : RefT (List ℕ)) (c : Counters) (r : Built)
+      → build.Learnt κs (n, (L, (ids, (sources, (counts, (destinations, (c, tt))))))) r (n, (L, (ids, (sources, (counts, (destinations, (c, tt)))))))
+      → answerOf (r .answer) ≡ Accepted
+      → (ds : List Done) → Ran (r .state) (r .counters) ds
+      → Proved (setup n (span L) (now ids) (now sources) (now counts) (now destinations)) r (map linkOf ds) × ReadAfter r (map linkOf ds)

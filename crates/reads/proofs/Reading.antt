@@ -1,0 +1,78 @@
+-- What each return of a read gives.
+use mathlib.Core.Path.{_≡_, refl, sym, ap, _∙_}
+use mathlib.Core.Bool.{Bool, true, false}
+use Prim.Native.Nat.{ℕ, _*_, _≤_}
+use native.Mathlib.Omega.{arith}
+use lib.ListN.{length}
+use Rattle.types.specs.declared.SimTime.{SimTime}
+use Rattle.types.specs.Value.{value}
+use Rattle.words.proofs.Tab.{length-tab}
+use Rattle.records.specs.Records.{eventAt, eventsOf}
+use Rattle.records.specs.Queue.{ticksOf}
+use Rattle.rules.specs.Base.{if_then_else_}
+use Rattle.rules.specs.State as R
+use Rattle.rules.specs.State.{State, top}
+use Rattle.rules.specs.Answers as A
+use Rattle.rules.specs.Rows.{unless, out, refuse}
+use Rattle.rules.specs.Foreign.{foreign}
+use Rattle.rules.specs.Refresh.{least}
+use Rattle.rules.specs.Reads.{read, readGvt, readCounters, readPending, readEarliest}
+use Rattle.state.specs.declared.Runtime.{Runtime}
+use Rattle.state.specs.declared.Counters.{Counters}
+use Rattle.state.specs.View.{viewOf, countersOf}
+use Rattle.state.proofs.Facts.{few-pending}
+use Rattle.reads.specs.declared.ReadAnswer.the-variants as P
+use Rattle.reads.specs.Reads.{Reads}
+
+read-11 : (s : State) (c : R.Counters) (a : A.Reading) → foreign s ≡ true → refuse s c A.ForeignState ≡ read s c a
+unfolding read unless if_then_else_
+read-11 s c a f = rw f
+
+read-passed : (s : State) (c : R.Counters) (a : A.Reading) → foreign s ≡ false → out (A.Read a) s c ≡ read s c a
+unfolding read unless if_then_else_
+read-passed s c a f = rw f
+
+module _ (s : Runtime) (x : Bool) (i : x ≡ foreign (viewOf s)) where
+  module _ (c : Counters) (e : x ≡ true) where
+    alien : (a : A.Reading) → refuse (viewOf s) (countersOf c) A.ForeignState ≡ read (viewOf s) (countersOf c) a
+    alien a = read-11 (viewOf s) (countersOf c) a (sym i ∙ e)
+
+    pub gvt-foreign : Reads readGvt s c P.ForeignState
+    unfolding readGvt
+    gvt-foreign = record { gives = alien _ }
+
+    pub counters-foreign : Reads readCounters s c P.ForeignState
+    unfolding readCounters
+    counters-foreign = record { gives = alien _ }
+
+    pub pending-foreign : Reads readPending s c P.ForeignState
+    unfolding readPending
+    pending-foreign = record { gives = alien _ }
+
+    pub earliest-foreign : Reads readEarliest s c P.ForeignState
+    unfolding readEarliest
+    earliest-foreign = record { gives = alien _ }
+
+  module _ (e : x ≡ false) where
+    pub can-pass : length (s .pending) ≡ 4096 → 8 * s .head .pending ≤ length (s .pending)
+    can-pass l = omega (arith, few-pending (s .head) (s .edges) (s .pending) (s .horizons) (s .batch) (sym i ∙ e))
+
+    module _ (c : Counters) where
+      passed : (a b : A.Reading) → a ≡ b → out (A.Read a) (viewOf s) (countersOf c) ≡ read (viewOf s) (countersOf c) b
+      passed a b q = ap (λ (r : A.Reading). out (A.Read r) (viewOf s) (countersOf c)) q ∙ read-passed (viewOf s) (countersOf c) b (sym i ∙ e)
+
+      pub gvt-read : Reads readGvt s c (P.Gvt (s .head .gvt))
+      unfolding readGvt
+      gvt-read = record { gives = passed _ _ refl }
+
+      pub counters-read : Reads readCounters s c (P.Counted c (s .head .used))
+      unfolding readCounters
+      counters-read = record { gives = passed _ _ refl }
+
+      pub pending-read : Reads readPending s c (P.Pending (s .head .pending))
+      unfolding readPending
+      pending-read = record { gives = passed _ _ (ap A.Pending (sym (length-tab (eventAt (s .pending)) 0 (s .head .pending)))) }
+
+      pub earliest-read : (t cap : SimTime) → value t ≡ least (value cap) (ticksOf (eventsOf (s .head .pending) (s .pending))) → value cap ≡ top → Reads readEarliest s c (P.Earliest t)
+      unfolding readEarliest
+      earliest-read t cap q k = record { gives = passed _ _ (ap A.Earliest (q ∙ ap (λ (m : ℕ). least m (ticksOf (eventsOf (s .head .pending) (s .pending)))) k)) }

@@ -1,0 +1,29 @@
+use borrow.Author.Needs.{needs}
+use Rattle.runtime.proofs.Carrying.{judged, carries-begin}
+use Rattle.runtime.proofs.begin.Statement.{statement}
+use Rattle.runtime.proofs.begin.Tie as tie
+
+is-foreign-state-requires : tie.Need-is-foreign-state-requires
+is-foreign-state-requires c κs = search needs
+
+foreign-state-requires : tie.Need-foreign-state-requires
+foreign-state-requires c κs = search (judged, needs)
+
+returns : tie.Need-returns
+returns c = c .foreign-state .ensures _
+
+begin-requires : tie.Need-begin-requires
+begin-requires c κs = search needs
+
+returns-2 : tie.Need-returns-2
+returns-2 c = search (carries-begin, needs)
+
+pub begin-spec : {M : Type 1} → statement M
+begin-spec =
+    tie.close
+    (tie.spec
+    is-foreign-state-requires
+    foreign-state-requires
+    returns
+    begin-requires
+    returns-2)

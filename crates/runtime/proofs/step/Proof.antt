@@ -1,0 +1,45 @@
+use borrow.Author.Needs.{needs}
+use Rattle.runtime.proofs.Carrying.{judged, can-lend, carries-step}
+use Rattle.runtime.proofs.step.Statement.{statement}
+use Rattle.runtime.proofs.step.Tie as tie
+
+is-foreign-state-requires : tie.Need-is-foreign-state-requires
+is-foreign-state-requires c κs = search needs
+
+foreign-state-requires : tie.Need-foreign-state-requires
+foreign-state-requires c κs = search (judged, needs)
+
+returns : tie.Need-returns
+returns c = c .foreign-state .ensures _
+
+slice-aggregate-step : tie.Need-slice-aggregate-step
+slice-aggregate-step c = search needs
+
+slice-aggregate-step-2 : tie.Need-slice-aggregate-step-2
+slice-aggregate-step-2 c = search needs
+
+slice-aggregate-step-3 : tie.Need-slice-aggregate-step-3
+slice-aggregate-step-3 c = search needs
+
+slice-aggregate-step-4 : tie.Need-slice-aggregate-step-4
+slice-aggregate-step-4 c = search needs
+
+step-requires : tie.Need-step-requires
+step-requires c κs = search (can-lend, needs)
+
+returns-2 : tie.Need-returns-2
+returns-2 c = search (carries-step, needs)
+
+pub step-spec : {M : Type 1} → statement M
+step-spec =
+    tie.close
+    (tie.spec
+    is-foreign-state-requires
+    foreign-state-requires
+    returns
+    slice-aggregate-step
+    slice-aggregate-step-2
+    slice-aggregate-step-3
+    slice-aggregate-step-4
+    step-requires
+    returns-2)

@@ -1,0 +1,28 @@
+-- What build promises: document 01, "Calls and what they turn away", rows 1 to 10.
+use mathlib.Core.Path.{_≡_}
+use mathlib.Core.List.{List}
+use Prim.Native.Nat.{ℕ}
+use Rattle.rules.specs.Answers.{Refusal, Accepted, Refused}
+use Rattle.rules.specs.Build.{Setup, setup, built, build}
+use Rattle.words.specs.Words.{zeroes}
+use Rattle.state.specs.declared.Runtime.{Runtime}
+use Rattle.state.specs.declared.Counters.{Counters}
+use Rattle.state.specs.View.{viewOf, countersOf}
+use Rattle.building.specs.Answered.{answerOf}
+use Rattle.building.specs.LaidOut.{noHead}
+use Rattle.runtime.specs.declared.Built.{Built}
+
+-- "nothing made": the state that stands for none. Every later call refuses it (proofs/Empty).
+abbrev pub nothing : Runtime
+nothing = record { edges = zeroes 2048; pending = zeroes 4096; horizons = zeroes 128; batch = zeroes 512; head = noHead }
+
+-- "Once built, ..", of every setup with these rows that build accepts.
+pub record Makes (n L : ℕ) (sources counts destinations : List ℕ) (r : Runtime) : Type 0 where
+  pub of-ids : (ids : List ℕ) → viewOf r ≡ built (setup n L ids sources counts destinations)
+
+pub record Builds (a : Setup) (c : Counters) (r : Built) : Type 0 where
+  pub answered : answerOf (r .answer) ≡ build a (countersOf c) .answer
+  pub made : build a (countersOf c) .answer ≡ Accepted → viewOf (r .state) ≡ built a
+  pub counted : countersOf (r .counters) ≡ build a (countersOf c) .counters
+  -- "nothing made"; "a refused build leaves the lent counters untouched".
+  pub refused : (why : Refusal) → build a (countersOf c) .answer ≡ Refused why → (r .state ≡ nothing) × (r .counters ≡ c)

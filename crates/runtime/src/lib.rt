@@ -1,0 +1,248 @@
+// The runtime's calls. States and answers go in and come back by value, and no call asks anything of
+// its caller.
+use building::BuildAnswer;
+use foreign::is_foreign_state;
+use state::Answer;
+use state::Counters;
+use state::Message;
+use state::Runtime;
+use types::SimDuration;
+use types::SimTime;
+ghost use mathlib.Core.Path.{_≡_};
+ghost use mathlib.Core.Bool.{true};
+ghost use Prim.Native.Nat.{_/_};
+ghost use lib.ListN.{length};
+ghost use Rattle.types.specs.Value.{value, span};
+ghost use Rattle.words.specs.Words.{zeroes};
+ghost use Rattle.rules.specs.Foreign.{foreign};
+ghost use Rattle.rules.specs.Build.{setup};
+ghost use Rattle.rules.specs.Calls.{Call, AddInitial, Begin, Step, HandBack};
+ghost use Rattle.replies.specs.Emissions.{emissionsOf};
+ghost use Rattle.state.specs.View.{viewOf, messageOf};
+ghost use Rattle.wiring.specs.Wired.{Writable};
+ghost use Rattle.runtime.specs.Builds.{nothing, Makes, Builds};
+ghost use Rattle.runtime.specs.Carries.{Carries};
+
+// What build gives: its answer, the runtime made and the counters left.
+pub struct Built {
+    pub answer: BuildAnswer,
+    pub state: Runtime,
+    pub counters: Counters,
+}
+
+// What a call on a runtime gives: its answer, with the runtime and the counters left.
+pub struct Called {
+    pub answer: Answer,
+    pub state: Runtime,
+    pub counters: Counters,
+}
+
+// "nothing made": all zeros, a state without processes, which every later call refuses with 11.
+fn nothing() -> Runtime
+    ensures { λ r. ⌜ r ≡ nothing ⌝ }
+{
+    Runtime {
+        edges: [0; 2048],
+        pending: [0; 4096],
+        horizons: [0; 128],
+        batch: [0; 512],
+        head: building::no_head(),
+    }
+}
+
+// The runtime of an accepted build.
+fn make<'a>(
+    n: u64,
+    lookahead: SimDuration,
+    sources: &'a [u32],
+    counts: &'a [u64],
+    destinations: &'a [u32],
+) -> Runtime
+    requires { ⌜ Writable (now sources) (now counts) (now destinations) (zeroes 2048) ⌝ }
+    ensures { λ r. ⌜ Makes n (span lookahead) (now (sources .entry)) (now (counts .entry)) (now (destinations .entry)) r ⌝ }
+{
+    let mut edges = [0u64; 2048];
+    let head = building::lay_out(n, lookahead, sources, counts, destinations, &mut edges);
+    Runtime {
+        edges: edges,
+        pending: [0; 4096],
+        horizons: [0; 128],
+        batch: [0; 512],
+        head: head,
+    }
+}
+
+// Build takes n, L, the process ids, the rows (their sources, and how many destinations each takes)
+// and the list from which the rows take their destinations in turn.
+pub fn build<'a>(
+    n: u64,
+    lookahead: SimDuration,
+    ids: &'a [u32],
+    sources: &'a [u32],
+    counts: &'a [u64],
+    destinations: &'a [u32],
+    counters: Counters,
+) -> Built
+    ensures { λ r. ⌜ Builds (setup n (span lookahead) (now (ids .entry)) (now (sources .entry)) (now (counts .entry)) (now (destinations .entry))) counters r ⌝ }
+{
+    let answer = building::judge(n, lookahead, ids, sources, counts, destinations);
+    if let BuildAnswer::Accepted = answer {
+        return Built {
+            answer: answer,
+            state: make(n, lookahead, sources, counts, destinations),
+            counters: Counters {
+                handled: 0,
+                emitted: 0,
+                remote: 0,
+                rounds: 0,
+                nulls: 0,
+                workers: 0,
+            },
+        };
+    }
+    Built {
+        answer: answer,
+        state: nothing(),
+        counters: counters,
+    }
+}
+
+// 11 refuses every call, with the state as given, and so the counters.
+fn foreign_state(state: Runtime, counters: Counters) -> Called
+    requires { ⌜ foreign (viewOf state) ≡ true ⌝ }
+    ensures { λ r. ⌜ ((k : Call) → Carries k state counters (r .answer) (r .state) (r .counters)) ⌝ }
+{
+    Called {
+        answer: Answer::ForeignState,
+        state: state,
+        counters: counters,
+    }
+}
+
+// Each call on a runtime is 11, then its core.
+pub fn begin(state: Runtime, counters: Counters, horizon: SimTime, budget: u64) -> Called
+    ensures { λ r. ⌜ Carries (Begin (value horizon) budget) state counters (r .answer) (r .state) (r .counters) ⌝ }
+{
+    if is_foreign_state(state) {
+        return foreign_state(state, counters);
+    }
+    let head = state.head;
+    let edges = state.edges;
+    let pending = state.pending;
+    let horizons = state.horizons;
+    let batch = state.batch;
+    let begun = starting::begin(head, horizon, budget);
+    let answer = begun.answer;
+    let left = begun.head;
+    Called {
+        answer: answer,
+        state: Runtime {
+            edges: edges,
+            pending: pending,
+            horizons: horizons,
+            batch: batch,
+            head: left,
+        },
+        counters: counters,
+    }
+}
+
+pub fn add_initial(state: Runtime, counters: Counters, m: Message) -> Called
+    ensures { λ r. ⌜ Carries (AddInitial (messageOf m)) state counters (r .answer) (r .state) (r .counters) ⌝ }
+{
+    if is_foreign_state(state) {
+        return foreign_state(state, counters);
+    }
+    let head = state.head;
+    let edges = state.edges;
+    let mut pending = state.pending;
+    let horizons = state.horizons;
+    let batch = state.batch;
+    let added = starting::add_initial(head, &edges, &mut pending, m);
+    let answer = added.answer;
+    let left = added.head;
+    Called {
+        answer: answer,
+        state: Runtime {
+            edges: edges,
+            pending: pending,
+            horizons: horizons,
+            batch: batch,
+            head: left,
+        },
+        counters: counters,
+    }
+}
+
+pub fn step(state: Runtime, counters: Counters) -> Called
+    ensures { λ r. ⌜ Carries Step state counters (r .answer) (r .state) (r .counters) ⌝ }
+{
+    if is_foreign_state(state) {
+        return foreign_state(state, counters);
+    }
+    let head = state.head;
+    let mut edges = state.edges;
+    let mut pending = state.pending;
+    let mut horizons = state.horizons;
+    let mut batch = state.batch;
+    let stepped = stepping::step(
+        head,
+        counters,
+        &mut edges,
+        &mut pending,
+        &mut horizons,
+        &mut batch,
+    );
+    let answer = stepped.answer;
+    let left = stepped.head;
+    let counted = stepped.counters;
+    Called {
+        answer: answer,
+        state: Runtime {
+            edges: edges,
+            pending: pending,
+            horizons: horizons,
+            batch: batch,
+            head: left,
+        },
+        counters: counted,
+    }
+}
+
+// The reply has eight words to an emission; words that make no whole one are passed over.
+pub fn hand_back(state: Runtime, counters: Counters, mask: u64, reply: &[u64]) -> Called
+    ensures { λ r. ⌜ Carries (HandBack mask (emissionsOf (length (now (reply .entry)) / 8) (now (reply .entry)))) state counters (r .answer) (r .state) (r .counters) ⌝ }
+{
+    if is_foreign_state(state) {
+        return foreign_state(state, counters);
+    }
+    let head = state.head;
+    let edges = state.edges;
+    let mut pending = state.pending;
+    let mut horizons = state.horizons;
+    let mut batch = state.batch;
+    let handed = handing::hand_back(
+        head,
+        counters,
+        &edges,
+        &mut pending,
+        &mut horizons,
+        &mut batch,
+        mask,
+        reply,
+    );
+    let answer = handed.answer;
+    let left = handed.head;
+    let counted = handed.counters;
+    Called {
+        answer: answer,
+        state: Runtime {
+            edges: edges,
+            pending: pending,
+            horizons: horizons,
+            batch: batch,
+            head: left,
+        },
+        counters: counted,
+    }
+}
