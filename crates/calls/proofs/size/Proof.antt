@@ -1,0 +1,53 @@
+use borrow.Author.Needs.{needs}
+use Rattle.calls.proofs.Decoding.{size-past, size-0, size-1, size-2, size-3, size-other}
+use Rattle.calls.proofs.size.Statement.{statement}
+use Rattle.calls.proofs.size.Tie as tie
+
+returns : tie.Need-returns
+returns c = search (size-past, needs)
+
+mul-tag : tie.Need-mul-tag
+mul-tag c = search needs
+
+shared-slice-read-tag : tie.Need-shared-slice-read-tag
+shared-slice-read-tag c = search needs
+
+fitting-requires : tie.Need-fitting-requires
+fitting-requires c κs = search needs
+
+returns-2 : tie.Need-returns-2
+returns-2 c = search (size-0, needs)
+
+fitting-requires-2 : tie.Need-fitting-requires-2
+fitting-requires-2 c κs = search needs
+
+returns-3 : tie.Need-returns-3
+returns-3 c = search (size-1, needs)
+
+returns-4 : tie.Need-returns-4
+returns-4 c = search (size-2, needs)
+
+back-size-requires : tie.Need-back-size-requires
+back-size-requires c κs = search needs
+
+returns-5 : tie.Need-returns-5
+returns-5 c = search (size-3, needs)
+
+returns-6 : tie.Need-returns-6
+returns-6 c = search (size-other, needs)
+
+pub size-spec : {M : Type 1} → statement M
+size-spec =
+    tie.close
+    (tie.spec
+    returns
+    mul-tag
+    shared-slice-read-tag
+    fitting-requires
+    returns-2
+    fitting-requires-2
+    returns-3
+    returns-4
+    back-size-requires
+    returns-5
+    returns-6)
