@@ -5,12 +5,19 @@
 //!     compare slips [N]         every wrong program is noticed within N scenarios
 //!     compare store DIR [N [SEED]]  N lists of calls with the original's answers
 //!     compare answer FILE       the original's answers to the lists of a file
+//!     compare plans PROGRAM [N] our program's answers to the plans of N lists
+//!     compare calls PROGRAM [N] our program's answers to the builds and calls of N scenarios
+//!     compare call-slips        wrong answers to calls are noticed
+//!     compare plan-slips        wrong answers to plans are noticed
+//!     compare store-plans DIR   lists of plans, for our program, with the original's answers
 //!
 //! Exit status: 0 no difference, 1 a difference, 2 nothing was compared.
 
+mod calls;
 mod difference;
 mod lists;
 mod plans;
+mod program;
 mod rehearse;
 mod shrink;
 mod slips;
@@ -26,6 +33,7 @@ const QUICK: u64 = 12_000;
 const FULL: u64 = 1_000_000;
 const SLIPS: u64 = 8_000;
 const STORED: u64 = 1_500;
+const PLANNED: u64 = 10_000;
 
 /// The number at this place of the arguments, or `otherwise` if there is none.
 fn number(words: &[String], at: usize, otherwise: u64) -> Option<u64> {
@@ -45,6 +53,17 @@ fn carry_out(words: &[String]) -> Option<bool> {
             let (count, seed) = (number(words, 2, STORED)?, number(words, 3, SEED)?);
             Some(store::store(words[1].as_ref(), count, seed))
         }
+        (Some("plans"), 2 | 3) => {
+            let count = number(words, 2, PLANNED)?;
+            Some(program::compare(words[1].as_ref(), SEED, count))
+        }
+        (Some("calls"), 2 | 3) => {
+            let count = number(words, 2, PLANNED)?;
+            Some(calls::compare(words[1].as_ref(), SEED, count))
+        }
+        (Some("call-slips"), 1) => Some(calls::slips(SEED)),
+        (Some("plan-slips"), 1) => Some(program::slips(SEED)),
+        (Some("store-plans"), 2) => Some(store::store_plans(words[1].as_ref(), STORED, SEED)),
         (Some("answer"), 2) => Some(store::answer(words[1].as_ref())),
         _ => None,
     }
@@ -57,7 +76,7 @@ fn main() -> ExitCode {
         Some(false) => ExitCode::from(1),
         None => {
             println!(
-                "usage: compare quick | full [N] | slips [N] | store DIR [N [SEED]] | answer FILE"
+                "usage: compare quick | full [N] | slips [N] | store DIR [N [SEED]] | answer FILE | plans PROGRAM [N] | calls PROGRAM [N] | call-slips | plan-slips | store-plans DIR"
             );
             ExitCode::from(2)
         }

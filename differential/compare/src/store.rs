@@ -1,6 +1,7 @@
 //! The stored sample: lists of calls with the original's answers.
 use crate::lists::{self, Observed, Seen};
 use crate::tally::Tally;
+use crate::{plans, program};
 use generate::Dice;
 use model::{Laid, List, Rules};
 use oracle::Origin;
@@ -91,6 +92,36 @@ pub fn store(folder: &Path, count: u64, seed: u64) -> bool {
         && files
             .iter()
             .all(|(name, bytes)| written(&folder.join(name), bytes))
+}
+
+/// Writes the lists of the sample that have a plan, plans at the edges, and something that cannot be
+/// decoded; with the lines that our program has to print for them and who gave these: `r` and `0` as
+/// in the sample.
+pub fn store_plans(folder: &Path, count: u64, seed: u64) -> bool {
+    let has_plan = |list: &List| list.calls.iter().any(|call| plans::observe(call).is_some());
+    let mut lists = sample(count, seed);
+    lists.retain(has_plan);
+    lists.extend(generate::edge_plans().iter().map(program::alone));
+    let encoded = lists.iter().flat_map(|list| words::encode(list, 0));
+    let mut bytes = words::bytes(&encoded.collect::<Vec<u64>>());
+    let right = words::decode(&bytes) == lists;
+    bytes.extend(program::undecodable(&mut Dice::new(seed)));
+    let all = program::expected(&lists);
+    let lines: String = all.iter().map(|e| e.line.as_str()).collect();
+    let origins: String = all.iter().map(|e| letter(e.origin)).collect();
+    println!(
+        "plans: {} lists, {} plans, {} by the Rust",
+        lists.len(),
+        all.len(),
+        origins.matches('r').count()
+    );
+    let files = [
+        ("stdin", &bytes[..]),
+        ("stdout", lines.as_bytes()),
+        ("origin.txt", (origins + "\n").as_bytes()),
+    ]
+    .map(|(name, bytes)| written(&folder.join(name), bytes));
+    right && files == [true; 3]
 }
 
 fn written(path: &Path, bytes: &[u8]) -> bool {

@@ -14,7 +14,8 @@ mod whole;
 
 pub use dice::Dice;
 pub use lists::{list, stored_list};
-pub use plans::plan;
+pub use plans::{any_plan, edge_plans, plan, plan_of, plans_beyond};
 pub use rehearsals::{rehearsals, Rehearsal};
+pub use replies::reply_beyond;
 pub use setups::any_setup;
 pub use whole::scenario;

@@ -2,6 +2,9 @@
 use crate::dice::Dice;
 use model::{Call, Entity, MOST};
 
+/// docs/CALLS.md: a plan of more entities or places is taken for something that cannot be decoded.
+const MOST_DECODED: u64 = 4096;
+
 /// Few indices and generations, so that an entity stands twice now and then.
 fn small(dice: &mut Dice) -> Vec<Entity> {
     let count = dice.below(9);
@@ -63,4 +66,83 @@ pub fn large_plan(dice: &mut Dice) -> Call {
         lent: entities.len() as u64,
         entities,
     }
+}
+
+/// Some dozens, with few indices or few generations.
+fn middling(dice: &mut Dice) -> Vec<Entity> {
+    let count = dice.below(200);
+    let indices = dice.pick(&[3, 40, 1_000, MOST]);
+    let generations = dice.pick(&[1, 4, 40, 1 << 32]);
+    let entity = |dice: &mut Dice| Entity {
+        index: dice.below(indices),
+        generation: dice.below(generations),
+    };
+    (0..count).map(|_| entity(dice)).collect()
+}
+
+/// More than there may be, up to the most that can be decoded.
+fn too_many(dice: &mut Dice) -> Vec<Entity> {
+    let count = dice.pick(&[1025, 1026, 2048, 4095, 4096]);
+    let entity = |index: u64| Entity {
+        index,
+        generation: 0,
+    };
+    (0..count).map(entity).collect()
+}
+
+/// A plan for our program: of any number of entities, and with a list of any length.
+pub fn any_plan(dice: &mut Dice) -> Call {
+    let entities = match dice.below(100) {
+        0 => many(dice),
+        1 if dice.one_in(4) => too_many(dice),
+        2..=12 => middling(dice),
+        _ => small(dice),
+    };
+    let Call::Plan {
+        n,
+        lookahead,
+        lent,
+        entities,
+    } = over(dice, entities)
+    else {
+        unreachable!("over makes a plan")
+    };
+    let lent = match dice.below(12) {
+        0 => dice.below(300),
+        _ => lent.min(MOST_DECODED),
+    };
+    Call::Plan {
+        n,
+        lookahead,
+        lent,
+        entities,
+    }
+}
+
+/// A good plan but for these two numbers, its entities in falling order.
+pub fn plan_of(count: u64, lent: u64) -> Call {
+    let entity = |index: u64| Entity {
+        index,
+        generation: index % 2,
+    };
+    Call::Plan {
+        n: 64,
+        lookahead: 1,
+        lent,
+        entities: (0..count).rev().map(entity).collect(),
+    }
+}
+
+/// Plans at the edges: 1,024 entities and one more, lists with no place to spare and with one too
+/// few, and the most that can be decoded.
+pub fn edge_plans() -> Vec<Call> {
+    let accepted = [(1024, 1024), (1024, 1023), (1024, 1030), (1025, 1025)];
+    let decoded = [(MOST_DECODED, 3), (1, MOST_DECODED)];
+    let edges = accepted.into_iter().chain(decoded);
+    edges.map(|(count, lent)| plan_of(count, lent)).collect()
+}
+
+/// Plans just beyond what can be decoded.
+pub fn plans_beyond() -> [Call; 2] {
+    [plan_of(MOST_DECODED + 1, 1), plan_of(1, MOST_DECODED + 1)]
 }

@@ -111,3 +111,18 @@ pub fn hand_back(dice: &mut Dice, s: &State, faults: u64) -> Call {
     }
     Call::HandBack { mask, emissions }
 }
+
+/// A reply just beyond what can be decoded.
+pub fn reply_beyond() -> Call {
+    let message = Message {
+        source: 0,
+        destination: 0,
+        tick: 1,
+        payload: Payload::default(),
+    };
+    let emitter = 0;
+    Call::HandBack {
+        mask: 0,
+        emissions: vec![Emission { emitter, message }; 4097],
+    }
+}

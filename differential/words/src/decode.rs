@@ -1,8 +1,9 @@
 //! Lists of calls from a file of words.
 use model::{Call, Emission, Entity, List, Message, Payload, Setup};
 
-/// A lent list of more places than this is taken for something that cannot be decoded.
-const MOST_PLACES: u64 = 1 << 20;
+/// A list of more things than this is taken for something that cannot be decoded, and so are more
+/// places for a plan.
+const MOST: u64 = 4096;
 
 struct Words<'a>(&'a [u8]);
 
@@ -24,7 +25,7 @@ impl Words<'_> {
 
     /// A number of things, then the things.
     fn many<T>(&mut self, one: impl Fn(&mut Self) -> Option<T>) -> Option<Vec<T>> {
-        let count = self.word()?;
+        let count = self.word().filter(|count| *count <= MOST)?;
         let mut many = vec![];
         for _ in 0..count {
             many.push(one(self)?);
@@ -73,7 +74,7 @@ impl Words<'_> {
     fn plan(&mut self) -> Option<Call> {
         let (n, lookahead, lent) = (self.word()?, self.wide()?, self.word()?);
         let entities = self.many(Self::entity)?;
-        (lent <= MOST_PLACES).then_some(Call::Plan {
+        (lent <= MOST).then_some(Call::Plan {
             n,
             lookahead,
             lent,

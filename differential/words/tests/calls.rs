@@ -1,5 +1,5 @@
 //! docs/CALLS.md: its example, and files that break off.
-use model::{Call, Host, List, Message, Payload, Rules, Setup};
+use model::{Call, Entity, Host, List, Message, Payload, Rules, Setup};
 
 /// C3 of document 01.
 fn c3() -> List {
@@ -65,4 +65,24 @@ fn upper_halves_of_ids_and_bytes_behind_a_payload_do_not_count() {
     let (plain, noisy) = (words::encode(&list, 0), words::encode(&list, 0xabcd));
     assert_ne!(plain, noisy);
     assert_eq!(words::decode(&words::bytes(&noisy)), [list]);
+}
+
+#[test]
+fn a_plan_of_more_than_4096_entities_or_places_ends_the_file() {
+    let plan = |count: usize, lent| Call::Plan {
+        n: 1,
+        lookahead: 1,
+        lent,
+        entities: vec![Entity::default(); count],
+    };
+    let read = |call: &Call| {
+        let mut list = c3();
+        list.calls.insert(1, call.clone());
+        words::decode(&words::bytes(&words::encode(&list, 0)))[0]
+            .calls
+            .len()
+    };
+    assert_eq!(read(&plan(4096, 4096)), 4);
+    assert_eq!(read(&plan(4097, 0)), 1);
+    assert_eq!(read(&plan(0, 4097)), 1);
 }

@@ -1,0 +1,65 @@
+use native.Mathlib.Omega.{arith}
+use borrow.Author.Needs.{needs}
+use Rattle.calls_main.proofs.carry_out_calls.Statement.{statement}
+use Rattle.calls_main.proofs.carry_out_calls.Tie as tie
+
+abbrev Inv-loop : tie.InvT-loop
+Inv-loop count s₀ left₀ s left = Unit {0}
+
+abbrev μ-loop : tie.MeasureT-loop
+μ-loop count s₀ left₀ s left = left
+
+read-word-requires : tie.Need-read-word-requires Inv-loop μ-loop
+read-word-requires c κs = search needs
+
+enum-known-count : tie.Need-enum-known-count Inv-loop μ-loop
+enum-known-count c = omega arith
+
+enum-told : tie.Need-enum-told Inv-loop μ-loop
+enum-told c = omega arith
+
+returns : tie.Need-returns Inv-loop μ-loop
+returns c = tt
+
+going-requires : tie.Need-going-requires Inv-loop μ-loop
+going-requires c κs = search needs
+
+loop-holds : tie.Need-loop-holds Inv-loop μ-loop
+loop-holds c = tt
+
+carry-out-next-requires : tie.Need-carry-out-next-requires Inv-loop μ-loop
+carry-out-next-requires c κs = search needs
+
+returns-2 : tie.Need-returns-2 Inv-loop μ-loop
+returns-2 c = tt
+
+sub-left : tie.Need-sub-left Inv-loop μ-loop
+sub-left c = omega arith
+
+loop-less : tie.Need-loop-less Inv-loop μ-loop
+loop-less c = omega arith
+
+loop-again : tie.Need-loop-again Inv-loop μ-loop
+loop-again c = tt
+
+returns-3 : tie.Need-returns-3 Inv-loop μ-loop
+returns-3 c = tt
+
+pub carry-out-calls-spec : {M : Type 1} → statement M
+carry-out-calls-spec =
+    tie.close
+    (tie.spec
+    Inv-loop
+    μ-loop
+    read-word-requires
+    enum-known-count
+    enum-told
+    returns
+    going-requires
+    loop-holds
+    carry-out-next-requires
+    returns-2
+    sub-left
+    loop-less
+    loop-again
+    returns-3)

@@ -1,0 +1,241 @@
+//! Our program `calls_main` (crates/calls_main) against the original: the lines that it prints for the
+//! builds and the calls of lists, each with everything that document 01 compares after a call.
+use crate::lists::{self, Observed};
+use crate::program::{file, first_other, printed, shown, BATCH};
+use crate::shrink::shrink;
+use crate::store;
+use crate::tally::Tally;
+use crate::work::{parts, shared};
+use generate::Dice;
+use model::{Answer, Call, Host, Laid, List, Rules, Variant};
+use std::path::Path;
+
+/// A list, and the original's lines for it with their origins.
+struct Expected {
+    list: List,
+    lines: Vec<String>,
+    letters: String,
+}
+
+fn expected(list: List, observed: &Observed) -> Expected {
+    let (lines, letters) = store::lines(observed);
+    Expected {
+        list,
+        lines,
+        letters,
+    }
+}
+
+/// The lists with this number: any calls, calls that a build leads to, and a build, which may be
+/// refused and has a call behind it.
+fn lists_of(seed: u64, number: u64) -> [List; 3] {
+    let mut dice = Dice::new(seed.wrapping_mul(1 << 32) ^ number);
+    let parts = parts(seed, number);
+    let (mut any, mut build) = (parts.list, parts.build);
+    any.odd = None;
+    build.calls = vec![Call::Step];
+    [any, generate::stored_list(&mut dice, number + 6), build]
+}
+
+fn all_lines(all: &[Expected]) -> impl Iterator<Item = &str> {
+    all.iter().flat_map(|e| &e.lines).map(String::as_str)
+}
+
+fn differs_alone(program: &Path, list: &List) -> bool {
+    let one = [expected(list.clone(), &lists::observe(list))];
+    let text = printed(program, &words::bytes(&words::encode(list, 0)));
+    text.is_ok_and(|text| first_other(all_lines(&one), &text).is_some())
+}
+
+/// What is told of a difference in a file.
+fn told(program: &Path, number: u64, all: &[Expected], text: &str) -> Option<String> {
+    let (at, line) = first_other(all_lines(all), text)?;
+    let mut before = 0;
+    let found = all.iter().find_map(|e| {
+        let here = at - before;
+        before += e.lines.len();
+        (at < before).then_some((e, here))
+    });
+    let (right, smallest) = match found {
+        None => ("no more lines".to_string(), String::new()),
+        Some((e, here)) => {
+            let who = match e.letters.as_bytes().get(here) {
+                Some(b'r') => "the Rust:    ",
+                _ => "document 01: ",
+            };
+            let smallest = match differs_alone(program, &e.list) {
+                true => format!("{:?}", shrink(&e.list, |l| differs_alone(program, l))),
+                false => "not by itself: look at how the file is read".to_string(),
+            };
+            (format!("{who}{}", shown(&e.lines[here])), smallest)
+        }
+    };
+    Some(format!(
+        "DIFFERENCE in file {number}, line {at}\n  {right}\n  our program: {}\n  smallest form: {smallest}",
+        shown(&line)
+    ))
+}
+
+/// Compares one file; what is told of a difference.
+fn compare_one(
+    program: &Path,
+    seed: u64,
+    number: u64,
+    count: u64,
+    tally: &mut Tally,
+) -> Option<String> {
+    let first = number * BATCH;
+    let numbers = first..count.min(first + BATCH);
+    let lists = numbers.flat_map(|number| lists_of(seed, number));
+    let bytes = file(seed, number, lists);
+    let mut all = vec![];
+    for list in words::decode(&bytes) {
+        let observed = lists::observe(&list);
+        lists::count(&observed, tally);
+        tally.lists += 1;
+        all.push(expected(list, &observed));
+    }
+    match printed(program, &bytes) {
+        Ok(text) => told(program, number, &all, &text),
+        Err(cause) => Some(format!("{} does not run: {cause}", program.display())),
+    }
+}
+
+/// Compares files up to the first difference.
+fn some_files(
+    program: &Path,
+    seed: u64,
+    count: u64,
+    numbers: &mut dyn Iterator<Item = u64>,
+) -> (Tally, Option<String>) {
+    let mut tally = Tally::default();
+    for number in numbers {
+        let found = compare_one(program, seed, number, count, &mut tally);
+        if found.is_some() {
+            return (tally, found);
+        }
+    }
+    (tally, None)
+}
+
+/// Compares `count` scenarios of three lists each and prints what was compared. Whether there was no
+/// difference.
+pub fn compare(program: &Path, seed: u64, count: u64) -> bool {
+    let files = count.div_ceil(BATCH);
+    let (mut tally, mut differences) = (Tally::default(), vec![]);
+    for (part, found) in shared(files, |numbers| some_files(program, seed, count, numbers)) {
+        tally.add(&part);
+        differences.extend(found);
+    }
+    differences.iter().for_each(|told| println!("{told}"));
+    let (lists, by_rust, by_rules) = (tally.lists, tally.by_rust, tally.by_rules);
+    let calls = by_rust + by_rules;
+    println!("calls: our program, seed {seed}: {calls} builds and calls in {lists} lists in {files} files, {by_rust} answered by the Rust, {by_rules} by document 01 alone");
+    println!("calls: refusals seen: {}", tally.refusals());
+    println!("calls: {} differences", differences.len());
+    differences.is_empty() && calls > 0
+}
+
+/// A call's line by a program that follows these rules.
+fn line_by(host: &mut Host, call: &Call) -> String {
+    let answer = host.call(call);
+    match call {
+        Call::Plan {
+            n,
+            lookahead,
+            lent,
+            entities,
+        } => {
+            let list = host.rules.plan(*n, *lookahead, entities, *lent).list;
+            words::plan_line(&Laid { answer, list })
+        }
+        _ => words::line(&answer, &host.counters, &host.state),
+    }
+}
+
+/// The text of a program that follows other rules.
+fn text_of(rules: Rules, all: &[Expected]) -> String {
+    let mut text = String::new();
+    for Expected { list, .. } in all {
+        match Host::build(rules, &list.setup) {
+            Err(refused) => text += &words::refused_build_line(&refused),
+            Ok(mut host) => {
+                text += &words::line(&Answer::Accepted, &host.counters, &host.state);
+                let lines = list.calls.iter().map(|call| line_by(&mut host, call));
+                text.extend(lines);
+            }
+        }
+    }
+    text
+}
+
+/// What a list of calls from build does not show: it is met from states set by hand alone, or, the
+/// owners, printed in no line.
+const UNSEEN: [Variant; 9] = [
+    Variant::ClosedByStoredHorizon,
+    Variant::OneLessWraps,
+    Variant::GvtFalls,
+    Variant::NoStraggler,
+    Variant::FullBeforeSequence,
+    Variant::SequenceOverflowEarly,
+    Variant::CountersWrap,
+    Variant::ForeignWithoutHorizon,
+    Variant::OwnersFromOne,
+];
+
+/// Wrong texts, each with what is wrong with it, and the right one.
+fn texts(all: &[Expected]) -> Vec<(&'static str, String)> {
+    let right = text_of(Rules::RIGHT, all);
+    let last = right
+        .trim_end_matches('\n')
+        .rfind('\n')
+        .map_or(0, |at| at + 1);
+    let mut texts = vec![
+        ("a digit is another", right.replacen('3', "4", 1)),
+        ("the last line is missing", right[..last].to_string()),
+        (
+            "the last line stands twice",
+            format!("{right}{}", &right[last..]),
+        ),
+        (
+            "the last line does not end",
+            right.trim_end_matches('\n').to_string(),
+        ),
+        ("nothing is printed", String::new()),
+    ];
+    let wrong = Variant::ALL.iter().filter(|v| !UNSEEN.contains(v));
+    texts.extend(wrong.map(|v| (v.words(), text_of(Rules::of(*v), all))));
+    texts.push(("", right));
+    texts
+}
+
+/// Whether each wrong text is noticed, and the right one is not.
+pub fn slips(seed: u64) -> bool {
+    let lists = (0..4 * BATCH).flat_map(|number| lists_of(seed, number));
+    let all: Vec<Expected> = lists
+        .map(|list| {
+            let observed = lists::observe(&list);
+            expected(list, &observed)
+        })
+        .collect();
+    let texts = texts(&all);
+    let mut missed = 0;
+    for (words, text) in &texts {
+        let noticed = first_other(all_lines(&all), text).is_some();
+        let right = words.is_empty();
+        if noticed == right {
+            println!(
+                "calls: slips: {} {words}",
+                if right {
+                    "the right text is refused"
+                } else {
+                    "NOT NOTICED:"
+                }
+            );
+            missed += 1;
+        }
+    }
+    let (lines, wrong) = (all_lines(&all).count(), texts.len() - 1);
+    println!("calls: slips: {wrong} wrong texts of {lines} lines, {missed} not noticed");
+    missed == 0
+}
