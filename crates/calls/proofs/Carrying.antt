@@ -34,7 +34,8 @@ use Rattle.state.specs.View.{view, countersOf, messageOf}
 use Rattle.state.specs.Lent.{Lent}
 use Rattle.state.proofs.Facts.{few-edges, in-order, newest}
 use Rattle.starting.specs.declared.Headed.{Headed}
-use Rattle.starting.specs.Starts.{Begins, Queueable, AddsInitial}
+use Rattle.starting.specs.Starts.{Begins}
+use Rattle.adding.specs.Adds.{Queueable, AddsInitial}
 use Rattle.stepping.specs.Steps.{Steps}
 use Rattle.handing.specs.Hands.{HandsBack}
 use Rattle.calls.specs.Decode.{messageAt, handBackAt, decode, size, called}

@@ -13,7 +13,7 @@ ghost use lib.ListN.{length, getD};
 ghost use Rattle.types.specs.Value.{id};
 ghost use Rattle.words.specs.Words.{tickAt};
 ghost use Rattle.rules.specs.Calls.{AddInitial, Begin};
-ghost use Rattle.starting.specs.Starts.{Queueable};
+ghost use Rattle.adding.specs.Adds.{Queueable};
 ghost use Rattle.state.specs.Lent.{Lent};
 ghost use Rattle.state.specs.View.{messageOf};
 ghost use Rattle.calls.specs.Decode.{messageAt, handBackAt, decode, size, Sizes, called};
@@ -120,7 +120,7 @@ fn carry_initial(
     ensures { λ r. ⌜ CarriesInitial (AddInitial (messageAt (now (words .entry)) (at + 1))) head counters (now (edges .entry)) (now (pending .entry)) r (now (pending .exit)) ⌝ }
 {
     let m = message_in(words, at + 1);
-    let headed = starting::add_initial(head, edges, pending, m);
+    let headed = adding::add_initial(head, edges, pending, m);
     let answer = headed.answer;
     let h = headed.head;
     After {

@@ -19,8 +19,8 @@ use Rattle.rules.proofs.Table.{unless-append}
 use Rattle.replies.specs.Emissions.{emissionsOf}
 use Rattle.replies.specs.Replies.{Owners, Places, Malformed}
 use Rattle.judging.specs.declared.Verdict.{Verdict}
-use Rattle.judging.specs.Judges.{Judges}
-use Rattle.judging.specs.Turns.{Judgeable, Replied, JudgesReply}
+use Rattle.judging.specs.Judges.{Judges, Judgeable}
+use Rattle.reviewing.specs.Turns.{Replied, JudgesReply}
 use Rattle.state.specs.declared.Head.{Head}
 use Rattle.state.specs.declared.Counters.{Counters}
 use Rattle.state.specs.declared.After.{After}
@@ -30,7 +30,9 @@ use Rattle.state.specs.Kept.{unmoved}
 use Rattle.state.specs.Lent.{Lent}
 use Rattle.state.proofs.Facts.{some-events, no-events, few-processes, few-edges, few-batch, batch-owners, batch-order}
 use Rattle.state.proofs.Moves.{committed-moves, lost-moves}
-use Rattle.handing.specs.Hands.{Loses, lastRows, settled, Settleable, Settles, HandsBack}
+use Rattle.concluding.specs.Concludes.{Loses}
+use Rattle.settling.specs.Settles.{lastRows, settled, Settleable, Settles}
+use Rattle.handing.specs.Hands.{HandsBack}
 
 none-is : (es : List Event) → es ≡ [] → nonEmpty es ≡ false
 unfolding nonEmpty

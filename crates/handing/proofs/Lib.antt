@@ -1,3 +1,1 @@
-pub mod Concluding
-pub mod Settling
 pub mod Back

@@ -1,78 +1,17 @@
--- What the parts of hand back ask and leave, in the words of the rules.
+-- What hand back gives, in the words of the rules.
 use mathlib.Core.Path.{_≡_}
-use mathlib.Core.Bool.{true, false}
-use mathlib.Core.List.{List, [], _∷_}
-use Prim.Native.Nat.{ℕ, _+_, _*_, _^_, _-_, _≤_, _<_}
-use lib.Dec.{ltb}
-use lib.ListN.{length}
-use Rattle.types.specs.Value.{value}
+use mathlib.Core.Bool.{true}
+use mathlib.Core.List.{List}
+use Prim.Native.Nat.{ℕ}
 use Rattle.records.specs.Records.{eventsOf}
-use Rattle.rules.specs.Base.{if_then_else_, count}
-use Rattle.rules.specs.State as R
-use Rattle.rules.specs.State.{Event, State, closed, most, most-pending}
-use Rattle.rules.specs.Answers as A
-use Rattle.rules.specs.Rows.{Row, _⇒_, unless, Out, out}
-use Rattle.rules.specs.Refresh.{refreshed}
-use Rattle.rules.specs.Step.{spent}
-use Rattle.rules.specs.HandBack.{Emission, isRemote, countRound, handled, commitAt, lose, handBack}
-use Rattle.replies.specs.Emissions.{emissionsOf}
+use Rattle.rules.specs.State.{Event}
+use Rattle.rules.specs.Rows.{out}
+use Rattle.rules.specs.HandBack.{Emission, handBack}
 use Rattle.state.specs.declared.Head.{Head}
 use Rattle.state.specs.declared.Counters.{Counters}
-use Rattle.state.specs.declared.Answer.{Answer}
 use Rattle.state.specs.declared.After.{After}
 use Rattle.state.specs.View.{view, countersOf, answerOf}
-use Rattle.state.specs.Lent.{Lent}
-use Rattle.state.specs.Heads.{poisonedHead, handledHead}
 use Rattle.state.specs.Kept.{unmoved, Same}
-
--- The counters c after a round that handled the events es and emitted the xs.
-unfoldable pub Counts : Counters → ℕ → ℕ → ℕ → Counters → Type 0
-Counts c handled emitted remote r = (es : List Event) (xs : List Emission) → length es ≡ handled → length xs ≡ emitted → count isRemote xs ≡ remote → countersOf r ≡ countRound (countersOf c) es xs
-
--- The answer, with nothing in hand and poisoned set. Which words the batch's are then does not matter: the view has none of them.
-abbrev pub Loses : Answer → Head → Counters → After → Type 0
-Loses a h c r = r ≡ record { answer = a; head = poisonedHead h; counters = c }
-
--- The end of the rules' `commit`, of a state t in which the round is done.
-unfoldable pub concluded : State → R.Counters → ℕ → ℕ → Out
-concluded t c horizon budget =
-    let u = refreshed t horizon (t .edges) (t .edges) (t .horizons) in
-    if spent t horizon budget then out (A.Refused (A.EventBudgetExceeded budget)) (closed t) c
-    else out (A.Committed (u .gvt)) u c
-
-pub record Concludable (h : Head) (edges pending horizons : List ℕ) : Type 0 where
-  pub few : h .n ≤ 64
-  pub edge-words : 4 * h .edges ≤ length edges
-  pub pending-words : 8 * h .pending ≤ length pending
-  pub horizon-words : length horizons ≡ 128
-  pub horizon : value (h .horizon) < 2 ^ 128 - 1
-
--- Whatever the batch's words are; and the answer is none that leaves the state as given.
-pub record Concludes (h : Head) (c : Counters) (edges pending horizons : List ℕ) (r : After) (horizons′ : List ℕ) : Type 0 where
-  pub gives : (B : List ℕ) → out (answerOf (eventsOf (r .head .batch) B) (r .answer)) (view (r .head) edges pending horizons′ B) (countersOf (r .counters)) ≡ concluded (view h edges pending horizons B) (countersOf c) (value (h .horizon)) (h .budget)
-  pub moves : (es : List Event) → unmoved (answerOf es (r .answer)) ≡ false
-
--- What is left of a round that emitted k emissions, whatever the edges and the local horizons are.
-pub record QueuesRound (h : Head) (pending batch reply : List ℕ) (k : ℕ) (r : Head) (pending′ batch′ : List ℕ) : Type 0 where
-  pub head : r ≡ handledHead h k (r .used)
-  pub state : (E Z : List ℕ) → view r E pending′ Z batch′ ≡ handled (view h E pending Z batch) (emissionsOf k reply)
-
--- What settling asks: a batch is in hand, in a state that 11 let pass, and the reply has the words of k emissions.
-pub record Settleable (h : Head) (edges pending horizons batch reply : List ℕ) (k : ℕ) : Type 0 where
-  pub lent : Lent h edges pending horizons batch
-  pub in-hand : 0 < h .batch
-  pub words : 8 * k ≤ length reply
-
--- Rows 19 and 18 of the emissions xs, and what follows them, in the rules' `handBack`.
-abbrev pub lastRows : State → List Emission → List Row
-lastRows s xs = (ltb most (s .next + length xs) ⇒ A.EventSequenceOverflow) ∷ (ltb most-pending (length (s .pending) + length xs) ⇒ A.QueueFull) ∷ []
-
-unfoldable pub settled : State → R.Counters → List Emission → Out
-settled s c xs = unless (lastRows s xs) (lose s c) (commitAt s c (s .stored) xs)
-
-pub record Settles (h : Head) (c : Counters) (edges pending horizons batch : List ℕ) (xs : List Emission) (r : After) (pending′ horizons′ batch′ : List ℕ) : Type 0 where
-  pub gives : out (answerOf (eventsOf (r .head .batch) batch′) (r .answer)) (view (r .head) edges pending′ horizons′ batch′) (countersOf (r .counters)) ≡ settled (view h edges pending horizons batch) (countersOf c) xs
-  pub moves : (es : List Event) → unmoved (answerOf es (r .answer)) ≡ false
 
 -- What the core of hand back promises. The edges are not touched.
 pub record HandsBack (h : Head) (c : Counters) (edges pending horizons batch : List ℕ) (mask : ℕ) (xs : List Emission) (r : After) (pending′ horizons′ batch′ : List ℕ) : Type 0 where

@@ -1,4 +1,2 @@
 pub mod Verdicts
 pub mod Rows
-pub mod Walk
-pub mod Passes

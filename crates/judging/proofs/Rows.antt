@@ -24,8 +24,7 @@ use Rattle.replies.specs.Emissions.{emissionOf}
 use Rattle.state.specs.declared.Head.{Head}
 use Rattle.state.specs.declared.Answer.the-variants as P
 use Rattle.judging.specs.declared.Verdict.{Verdict}
-use Rattle.judging.specs.Judges.{Judges, tickRows, rowsOf}
-use Rattle.judging.specs.Turns.{JudgesOne}
+use Rattle.judging.specs.Judges.{Judges, tickRows, rowsOf, JudgesOne}
 use Rattle.judging.proofs.Verdicts.{refusing, sound, nothing, struck, go-by}
 
 -- The minimum.

@@ -2,15 +2,21 @@
 use mathlib.Core.Path.{_≡_}
 use mathlib.Core.Bool.{true, false}
 use mathlib.Core.List.{List, [], _∷_, _++_}
-use Prim.Native.Nat.{ℕ}
+use Prim.Native.Nat.{ℕ, _*_, _≤_}
 use lib.Dec.{ltb}
+use lib.ListN.{length}
+use Rattle.types.specs.declared.SimTime.{SimTime}
+use Rattle.types.specs.Value.{value}
 use Rattle.rules.specs.State.{Event, State, Counters, poison}
 use Rattle.rules.specs.Answers as A
 use Rattle.rules.specs.Answers.{Refusal}
 use Rattle.rules.specs.Rows.{Row, _⇒_, unless, Out, out}
 use Rattle.rules.specs.Pending.{route}
 use Rattle.rules.specs.HandBack.{Emission, messageRows, stragglerRow, lose}
-use Rattle.state.specs.View.{answerOf}
+use Rattle.replies.specs.declared.Emission as W
+use Rattle.replies.specs.Emissions.{emissionOf}
+use Rattle.state.specs.declared.Head.{Head}
+use Rattle.state.specs.View.{view, answerOf}
 use Rattle.judging.specs.declared.Verdict.{Verdict}
 
 -- What a verdict says of a table of rows that poison.
@@ -28,3 +34,13 @@ tickRows x t least local =
 -- 28 to 33 of the emission x, whose event has the tick t.
 unfoldable pub rowsOf : State → ℕ → Emission → List Row
 rowsOf s t x = messageRows (s .n) (route (s .edges)) (s .lookahead) (x .emitter) t (x .message) ++ (stragglerRow s (x .message) ∷ [])
+
+-- What 28 to 33 ask: the words of the edges and of the local horizons are there.
+pub record Judgeable (h : Head) (edges horizons : List ℕ) : Type 0 where
+  pub few : h .n ≤ 64
+  pub edge-words : 4 * h .edges ≤ length edges
+  pub horizon-words : length horizons ≡ 128
+
+-- Whatever the pending words and those in hand are: 28 to 33 read neither.
+unfoldable pub JudgesOne : Head → List ℕ → List ℕ → W.Emission → SimTime → Verdict → Type 0
+JudgesOne h E Z e time r = (P B : List ℕ) → Judges (rowsOf (view h E P Z B) (value time) (emissionOf e)) r

@@ -33,87 +33,227 @@ fn put_with(out: &mut [u8], at: usize, text: &[u8], n: u64) -> usize {
     output::put_decimal(out, end, n)
 }
 
-fn put_pair(out: &mut [u8], at: usize, text: &[u8], a: u64, b: u64) -> usize {
-    let end = put_with(out, at, text, a);
-    put_with(out, end, b" ", b)
-}
-
 // A text and a tick behind it.
 fn put_with_tick(out: &mut [u8], at: usize, text: &[u8], t: SimTime) -> usize {
     let end = output::put(out, at, text);
     output::put_tick(out, end, t)
 }
 
-fn put_ticks(out: &mut [u8], at: usize, a: SimTime, b: SimTime) -> usize {
-    let end = put_with_tick(out, at, b" ", a);
-    put_with_tick(out, end, b" ", b)
+// A number behind a space, a tick behind one, and both behind a colon: a text for each place where
+// one is put would be a local of its caller, and a function with many is slow to check.
+fn put_next(out: &mut [u8], at: usize, n: u64) -> usize {
+    put_with(out, at, b" ", n)
 }
 
-// 1 to 10, or that a build was accepted.
+fn put_next_tick(out: &mut [u8], at: usize, t: SimTime) -> usize {
+    put_with_tick(out, at, b" ", t)
+}
+
+fn put_part(out: &mut [u8], at: usize, n: u64) -> usize {
+    put_with(out, at, b":", n)
+}
+
+fn put_tick_part(out: &mut [u8], at: usize, t: SimTime) -> usize {
+    put_with_tick(out, at, b":", t)
+}
+
+// What a refusal returns, in the order of document 01's table: so many words, then so many ticks.
+struct Words {
+    count: u64,
+    a: u64,
+    b: u64,
+}
+
+struct Ticks {
+    count: u64,
+    a: SimTime,
+    b: SimTime,
+    c: SimTime,
+}
+
+fn one(a: u64) -> Words {
+    Words {
+        count: 1,
+        a: a,
+        b: 0,
+    }
+}
+
+fn two(a: u64, b: u64) -> Words {
+    Words {
+        count: 2,
+        a: a,
+        b: b,
+    }
+}
+
+fn put_words(out: &mut [u8], at: usize, words: Words) -> usize {
+    if words.count == 0 {
+        return at;
+    }
+    if words.count == 1 {
+        return put_next(out, at, words.a);
+    }
+    let end = put_next(out, at, words.a);
+    put_next(out, end, words.b)
+}
+
+fn put_ticks(out: &mut [u8], at: usize, ticks: Ticks) -> usize {
+    if ticks.count == 0 {
+        return at;
+    }
+    let mut end = put_next_tick(out, at, ticks.a);
+    if ticks.count == 1 {
+        return end;
+    }
+    end = put_next_tick(out, end, ticks.b);
+    if ticks.count == 2 {
+        return end;
+    }
+    put_next_tick(out, end, ticks.c)
+}
+
+// 1 to 10; 0 for an accepted build.
+fn build_number(answer: BuildAnswer) -> u64 {
+    match answer {
+        BuildAnswer::Accepted => 0,
+        BuildAnswer::InvalidPartitionCount(_) => 1,
+        BuildAnswer::InvalidLookahead => 2,
+        BuildAnswer::UnorderedProcesses => 3,
+        BuildAnswer::ProcessSetMismatch(_, _) => 4,
+        BuildAnswer::MalformedTopology => 5,
+        BuildAnswer::MissingTopologyEntry(_) => 6,
+        BuildAnswer::UnknownTopologySource(_) => 7,
+        BuildAnswer::UnknownTopologyDestination(_, _) => 8,
+        BuildAnswer::SelfLoop(_) => 9,
+        BuildAnswer::DuplicateNeighbor(_, _) => 10,
+    }
+}
+
+fn build_words(answer: BuildAnswer) -> Words {
+    match answer {
+        BuildAnswer::InvalidPartitionCount(n) => one(n),
+        BuildAnswer::ProcessSetMismatch(mask, n) => two(mask, n),
+        BuildAnswer::MissingTopologyEntry(p) => one(p),
+        BuildAnswer::UnknownTopologySource(p) => one(p),
+        BuildAnswer::UnknownTopologyDestination(p, d) => two(p, d),
+        BuildAnswer::SelfLoop(p) => one(p),
+        BuildAnswer::DuplicateNeighbor(p, d) => two(p, d),
+        _ => Words {
+            count: 0,
+            a: 0,
+            b: 0,
+        },
+    }
+}
+
 pub fn put_build_answer(out: &mut [u8], at: usize, answer: BuildAnswer) -> usize {
+    let number = build_number(answer);
+    if number == 0 {
+        return output::put(out, at, b"accepted");
+    }
+    let end = put_with(out, at, b"refused ", number);
+    put_words(out, end, build_words(answer))
+}
+
+// 11 to 33; 0 for an answer that refuses nothing.
+fn number_of(answer: Answer) -> u64 {
     match answer {
-        BuildAnswer::Accepted => output::put(out, at, b"accepted"),
-        BuildAnswer::InvalidPartitionCount(n) => put_with(out, at, b"refused 1 ", n),
-        BuildAnswer::InvalidLookahead => output::put(out, at, b"refused 2"),
-        BuildAnswer::UnorderedProcesses => output::put(out, at, b"refused 3"),
-        BuildAnswer::ProcessSetMismatch(mask, n) => put_pair(out, at, b"refused 4 ", mask, n),
-        BuildAnswer::MalformedTopology => output::put(out, at, b"refused 5"),
-        BuildAnswer::MissingTopologyEntry(p) => put_with(out, at, b"refused 6 ", p),
-        BuildAnswer::UnknownTopologySource(p) => put_with(out, at, b"refused 7 ", p),
-        BuildAnswer::UnknownTopologyDestination(p, d) => put_pair(out, at, b"refused 8 ", p, d),
-        BuildAnswer::SelfLoop(p) => put_with(out, at, b"refused 9 ", p),
-        BuildAnswer::DuplicateNeighbor(p, d) => put_pair(out, at, b"refused 10 ", p, d),
+        Answer::ForeignState => 11,
+        Answer::Poisoned => 12,
+        Answer::InitialEventsAlreadyClosed => 13,
+        Answer::UnknownInitialSource(_) => 14,
+        Answer::UnknownInitialDestination(_) => 15,
+        Answer::InitialRouteMissing(_, _) => 16,
+        Answer::PayloadTooLong(_) => 17,
+        Answer::QueueFull => 18,
+        Answer::EventSequenceOverflow => 19,
+        Answer::RunOpen => 20,
+        Answer::HorizonRegression(_, _) => 21,
+        Answer::HorizonOverflow(_) => 22,
+        Answer::NothingToStep => 23,
+        Answer::EventBudgetExceeded(_) => 24,
+        Answer::NoBatch => 25,
+        Answer::MalformedReply => 26,
+        Answer::HandlerFailed(_) => 27,
+        Answer::OutboundSourceMismatch(_, _) => 28,
+        Answer::UnknownOutboundDestination(_) => 29,
+        Answer::OutboundRouteMissing(_, _) => 30,
+        Answer::LookaheadOverflow(_, _, _) => 31,
+        Answer::OutboundLookaheadViolation(_, _, _, _) => 32,
+        Answer::Straggler(_, _, _) => 33,
+        _ => 0,
     }
 }
 
-// 26 to 33.
-fn put_refused_reply(out: &mut [u8], at: usize, answer: Answer) -> usize {
+fn words_of(answer: Answer) -> Words {
     match answer {
-        Answer::MalformedReply => output::put(out, at, b"refused 26"),
-        Answer::HandlerFailed(p) => put_with(out, at, b"refused 27 ", p),
-        Answer::OutboundSourceMismatch(p, a) => put_pair(out, at, b"refused 28 ", p, a),
-        Answer::UnknownOutboundDestination(b) => put_with(out, at, b"refused 29 ", b),
-        Answer::OutboundRouteMissing(a, b) => put_pair(out, at, b"refused 30 ", a, b),
-        Answer::LookaheadOverflow(p, t, l) => {
-            let end = put_with(out, at, b"refused 31 ", p);
-            put_ticks(out, end, t, SimTime::from_ticks(l.hi, l.lo))
-        }
-        Answer::OutboundLookaheadViolation(p, t, u, m) => {
-            let mut end = put_with(out, at, b"refused 32 ", p);
-            end = put_with_tick(out, end, b" ", t);
-            put_ticks(out, end, u, m)
-        }
-        Answer::Straggler(b, u, h) => {
-            let end = put_with(out, at, b"refused 33 ", b);
-            put_ticks(out, end, u, h)
-        }
-        _ => at,
+        Answer::UnknownInitialSource(p) => one(p),
+        Answer::UnknownInitialDestination(p) => one(p),
+        Answer::InitialRouteMissing(a, b) => two(a, b),
+        Answer::PayloadTooLong(k) => one(k),
+        Answer::EventBudgetExceeded(b) => one(b),
+        Answer::HandlerFailed(p) => one(p),
+        Answer::OutboundSourceMismatch(p, a) => two(p, a),
+        Answer::UnknownOutboundDestination(b) => one(b),
+        Answer::OutboundRouteMissing(a, b) => two(a, b),
+        Answer::LookaheadOverflow(p, _, _) => one(p),
+        Answer::OutboundLookaheadViolation(p, _, _, _) => one(p),
+        Answer::Straggler(b, _, _) => one(b),
+        _ => Words {
+            count: 0,
+            a: 0,
+            b: 0,
+        },
     }
 }
 
-// 11 to 33.
+fn ticks_of(answer: Answer) -> Ticks {
+    let zero = SimTime::zero();
+    match answer {
+        Answer::HorizonRegression(g, h) => Ticks {
+            count: 2,
+            a: g,
+            b: h,
+            c: zero,
+        },
+        Answer::HorizonOverflow(h) => Ticks {
+            count: 1,
+            a: h,
+            b: zero,
+            c: zero,
+        },
+        Answer::LookaheadOverflow(_, t, l) => Ticks {
+            count: 2,
+            a: t,
+            b: SimTime::from_ticks(l.hi, l.lo),
+            c: zero,
+        },
+        Answer::OutboundLookaheadViolation(_, t, u, m) => Ticks {
+            count: 3,
+            a: t,
+            b: u,
+            c: m,
+        },
+        Answer::Straggler(_, u, h) => Ticks {
+            count: 2,
+            a: u,
+            b: h,
+            c: zero,
+        },
+        _ => Ticks {
+            count: 0,
+            a: zero,
+            b: zero,
+            c: zero,
+        },
+    }
+}
+
 fn put_refusal(out: &mut [u8], at: usize, answer: Answer) -> usize {
-    match answer {
-        Answer::ForeignState => output::put(out, at, b"refused 11"),
-        Answer::Poisoned => output::put(out, at, b"refused 12"),
-        Answer::InitialEventsAlreadyClosed => output::put(out, at, b"refused 13"),
-        Answer::UnknownInitialSource(p) => put_with(out, at, b"refused 14 ", p),
-        Answer::UnknownInitialDestination(p) => put_with(out, at, b"refused 15 ", p),
-        Answer::InitialRouteMissing(a, b) => put_pair(out, at, b"refused 16 ", a, b),
-        Answer::PayloadTooLong(k) => put_with(out, at, b"refused 17 ", k),
-        Answer::QueueFull => output::put(out, at, b"refused 18"),
-        Answer::EventSequenceOverflow => output::put(out, at, b"refused 19"),
-        Answer::RunOpen => output::put(out, at, b"refused 20"),
-        Answer::HorizonRegression(g, h) => {
-            let end = output::put(out, at, b"refused 21");
-            put_ticks(out, end, g, h)
-        }
-        Answer::HorizonOverflow(h) => put_with_tick(out, at, b"refused 22 ", h),
-        Answer::NothingToStep => output::put(out, at, b"refused 23"),
-        Answer::EventBudgetExceeded(b) => put_with(out, at, b"refused 24 ", b),
-        Answer::NoBatch => output::put(out, at, b"refused 25"),
-        _ => put_refused_reply(out, at, answer),
-    }
+    let mut end = put_with(out, at, b"refused ", number_of(answer));
+    end = put_words(out, end, words_of(answer));
+    put_ticks(out, end, ticks_of(answer))
 }
 
 pub fn put_answer(out: &mut [u8], at: usize, answer: Answer) -> usize {
@@ -130,11 +270,12 @@ pub fn put_answer(out: &mut [u8], at: usize, answer: Answer) -> usize {
 // The seven counters, the last of which is the state's.
 pub fn put_counters(out: &mut [u8], at: usize, counters: Counters, used: u64) -> usize {
     let mut end = output::put_decimal(out, at, counters.handled);
-    end = put_with(out, end, b" ", counters.emitted);
-    end = put_with(out, end, b" ", counters.remote);
-    end = put_with(out, end, b" ", counters.rounds);
-    end = put_with(out, end, b" ", counters.nulls);
-    put_pair(out, end, b" ", counters.workers, used)
+    end = put_next(out, end, counters.emitted);
+    end = put_next(out, end, counters.remote);
+    end = put_next(out, end, counters.rounds);
+    end = put_next(out, end, counters.nulls);
+    end = put_next(out, end, counters.workers);
+    put_next(out, end, used)
 }
 
 fn put_reading(out: &mut [u8], at: usize, answer: ReadAnswer) -> usize {
@@ -153,14 +294,9 @@ fn put_reading(out: &mut [u8], at: usize, answer: ReadAnswer) -> usize {
 fn put_sizes(out: &mut [u8], at: usize, head: Head) -> usize {
     let lookahead = head.lookahead;
     let mut end = output::put_decimal(out, at, head.n as u64);
-    end = put_with_tick(
-        out,
-        end,
-        b" ",
-        SimTime::from_ticks(lookahead.hi, lookahead.lo),
-    );
-    end = put_with(out, end, b" ", head.next);
-    put_with_tick(out, end, b" ", head.gvt)
+    end = put_next_tick(out, end, SimTime::from_ticks(lookahead.hi, lookahead.lo));
+    end = put_next(out, end, head.next);
+    put_next_tick(out, end, head.gvt)
 }
 
 // The space before each part of a list but the first.
@@ -173,8 +309,8 @@ fn put_gap(out: &mut [u8], at: usize, k: usize) -> usize {
 
 fn put_edge(out: &mut [u8], at: usize, source: u64, destination: u64, bound: SimTime) -> usize {
     let mut end = output::put_decimal(out, at, source);
-    end = put_with(out, end, b":", destination);
-    put_with_tick(out, end, b":", bound)
+    end = put_part(out, end, destination);
+    put_tick_part(out, end, bound)
 }
 
 fn put_edges(out: &mut [u8], at: usize, w: &[u64], count: usize) -> usize {
@@ -212,9 +348,9 @@ fn put_payload(out: &mut [u8], at: usize, len: u64, p0: u64, p1: u64) -> usize {
 
 fn put_event(out: &mut [u8], at: usize, r: Record) -> usize {
     let mut end = output::put_decimal(out, at, r.dst);
-    end = put_with_tick(out, end, b":", r.tick());
-    end = put_with(out, end, b":", r.src);
-    end = put_with(out, end, b":", r.seq);
+    end = put_tick_part(out, end, r.tick());
+    end = put_part(out, end, r.src);
+    end = put_part(out, end, r.seq);
     end = output::put(out, end, b":");
     put_payload(out, end, r.len, r.p0, r.p1)
 }
@@ -246,7 +382,7 @@ fn put_horizons(out: &mut [u8], at: usize, w: &[u64], n: usize) -> usize {
 fn put_stored(out: &mut [u8], at: usize, head: Head) -> usize {
     if head.stored {
         let end = output::put_tick(out, at, head.horizon);
-        return put_with(out, end, b" ", head.budget);
+        return put_next(out, end, head.budget);
     }
     output::put(out, at, b"-")
 }

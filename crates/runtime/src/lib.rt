@@ -158,7 +158,7 @@ pub fn add_initial(state: Runtime, counters: Counters, m: Message) -> Called
     let mut pending = state.pending;
     let horizons = state.horizons;
     let batch = state.batch;
-    let added = starting::add_initial(head, &edges, &mut pending, m);
+    let added = adding::add_initial(head, &edges, &mut pending, m);
     let answer = added.answer;
     let left = added.head;
     Called {

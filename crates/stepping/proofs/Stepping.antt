@@ -28,7 +28,8 @@ use Rattle.state.proofs.Facts.{stored-is, some-events, no-events, few-processes
 use Rattle.state.proofs.Moves.{batch-moves}
 use Rattle.advancing.specs.Advances.{Advanceable}
 use Rattle.state.specs.declared.After.{After}
-use Rattle.stepping.specs.Steps.{Takeable, HandsOut, Idle, GoesOn, Steps}
+use Rattle.idling.specs.Idles.{Idle, GoesOn}
+use Rattle.stepping.specs.Steps.{Takeable, HandsOut, Steps}
 
 none-is : (es : List Event) → es ≡ [] → nonEmpty es ≡ false
 unfolding nonEmpty

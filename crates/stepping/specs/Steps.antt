@@ -1,18 +1,17 @@
 -- What the core of a step asks and leaves, in the words of the rules.
 use mathlib.Core.Path.{_≡_}
-use mathlib.Core.Bool.{true, false}
+use mathlib.Core.Bool.{true}
 use mathlib.Core.List.{List}
 use Prim.Native.Nat.{ℕ, suc, _≤_, _<_}
 use lib.ListN.{length}
 use Rattle.types.specs.Value.{value}
 use Rattle.records.specs.Records.{edgesOf, eventsOf}
-use Rattle.rules.specs.Base.{rising, nonEmpty}
-use Rattle.rules.specs.State.{Event, State, withBatch}
+use Rattle.rules.specs.Base.{rising}
+use Rattle.rules.specs.State.{Event, withBatch}
 use Rattle.rules.specs.Pending.{before}
 use Rattle.rules.specs.Rows.{out}
-use Rattle.rules.specs.Step.{takenAt, stepRun, step}
+use Rattle.rules.specs.Step.{takenAt, step}
 use Rattle.rules.proofs.Lists.{All}
-use Rattle.rules.proofs.Cases
 use Rattle.frontiers.specs.Tables.{Fronts}
 use Rattle.state.specs.declared.Head.{Head}
 use Rattle.state.specs.declared.Counters.{Counters}
@@ -36,17 +35,6 @@ pub record HandsOut (h : Head) (pending safe batch : List ℕ) (r : Head) (pendi
   pub state : (E Z : List ℕ) → Fronts (edgesOf (h .edges) E) (suc (value (h .horizon))) safe
       → let s = view h E pending Z batch in let t = takenAt s (value (h .horizon)) (h .budget) in view r E pending′ Z batch′ ≡ withBatch s (t .events) (t .left)
   pub none : r .batch ≡ 0 → (r .pending ≡ h .pending) × (eventsOf (r .pending) pending′ ≡ eventsOf (h .pending) pending)
-
--- A step of s, in a run with horizon h and budget b, that takes nothing.
-pub record Idle (s : State) (h b : ℕ) : Type 0 where
-  pub steps : Cases.Steps s h b
-  pub none-taken : nonEmpty (takenAt s h b .events) ≡ false
-
--- Answer, state and counters are the rule's, whatever the batch is; and the answer is none that leaves the state as given.
-pub record GoesOn (h : Head) (c : Counters) (edges pending horizons safe : List ℕ) (r : After) (edges′ horizons′ : List ℕ) : Type 0 where
-  pub gives : (B : List ℕ) → Fronts (edgesOf (h .edges) edges) (suc (value (h .horizon))) safe → Idle (view h edges pending horizons B) (value (h .horizon)) (h .budget)
-      → out (answerOf (eventsOf (r .head .batch) B) (r .answer)) (view (r .head) edges′ pending horizons′ B) (countersOf (r .counters)) ≡ stepRun (view h edges pending horizons B) (countersOf c) (value (h .horizon)) (h .budget)
-  pub moves : (es : List Event) → unmoved (answerOf es (r .answer)) ≡ false
 
 -- What the core of a step promises.
 pub record Steps (h : Head) (c : Counters) (edges pending horizons batch : List ℕ) (r : After) (edges′ pending′ horizons′ batch′ : List ℕ) : Type 0 where

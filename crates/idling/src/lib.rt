@@ -1,0 +1,66 @@
+// A step that takes nothing: 24, or an advance.
+use advancing::one_more;
+use state::After;
+use state::Answer;
+use state::Counters;
+use state::Head;
+ghost use mathlib.Core.Path.{_≡_};
+ghost use Rattle.rules.specs.Step.{countAdvance};
+ghost use Rattle.state.specs.View.{countersOf};
+ghost use Rattle.advancing.specs.Advances.{Advanceable};
+ghost use Rattle.idling.specs.Idles.{GoesOn};
+
+// "If anything rose, rounds + 1"; "each bound raised is one null message".
+fn count_advance(counters: Counters, raised: usize) -> Counters
+    ensures { λ r. ⌜ countersOf r ≡ countAdvance (countersOf counters) raised ⌝ }
+{
+    let mut c = counters;
+    c.rounds = state::raised(counters.rounds, 1);
+    c.nulls = state::raised(counters.nulls, raised as u64);
+    c
+}
+
+// Nothing was taken: 24, or an advance. Where nothing rises, the run is complete: the branch of the
+// rules where it is not is never reached (rules/proofs/Unstuck).
+pub fn go_on(
+    head: Head,
+    counters: Counters,
+    edges: &mut [u64],
+    pending: &[u64],
+    horizons: &mut [u64],
+    safe: &mut [u64],
+) -> After
+    requires { ⌜ Advanceable head (now edges) (now pending) (now horizons) (now safe) ⌝ }
+    ensures { λ r. ⌜ GoesOn head counters (now (edges .entry)) (now (pending .entry)) (now (horizons .entry)) (now (safe .entry)) r (now (edges .exit)) (now (horizons .exit)) ⌝ }
+{
+    let count = head.pending;
+    let horizon = head.horizon;
+    let top = one_more(horizon);
+    let mut first = [0u64; 128];
+    frontiers::first_ticks(pending, count, top, &mut first);
+    if advancing::is_spent(head, safe, &first) {
+        let mut h = head;
+        h.running = false;
+        return After {
+            answer: Answer::EventBudgetExceeded(head.budget),
+            head: h,
+            counters: counters,
+        };
+    }
+    let advanced = advancing::advance(head, edges, pending, horizons, safe, &first);
+    let mut h = advanced.head;
+    let gvt = h.gvt;
+    if advanced.rose {
+        return After {
+            answer: Answer::Advanced(gvt),
+            head: h,
+            counters: count_advance(counters, advanced.raised),
+        };
+    }
+    h.running = false;
+    After {
+        answer: Answer::Finished(gvt),
+        head: h,
+        counters: counters,
+    }
+}

@@ -1,0 +1,43 @@
+-- What settling a sound reply asks and leaves, in the words of the rules.
+use mathlib.Core.Path.{_≡_}
+use mathlib.Core.Bool.{false}
+use mathlib.Core.List.{List, [], _∷_}
+use Prim.Native.Nat.{ℕ, _+_, _*_, _≤_, _<_}
+use lib.Dec.{ltb}
+use lib.ListN.{length}
+use Rattle.records.specs.Records.{eventsOf}
+use Rattle.rules.specs.State as R
+use Rattle.rules.specs.State.{Event, State, most, most-pending}
+use Rattle.rules.specs.Answers as A
+use Rattle.rules.specs.Rows.{Row, _⇒_, unless, Out, out}
+use Rattle.rules.specs.HandBack.{Emission, handled, commitAt, lose}
+use Rattle.replies.specs.Emissions.{emissionsOf}
+use Rattle.state.specs.declared.Head.{Head}
+use Rattle.state.specs.declared.Counters.{Counters}
+use Rattle.state.specs.declared.After.{After}
+use Rattle.state.specs.View.{view, countersOf, answerOf}
+use Rattle.state.specs.Lent.{Lent}
+use Rattle.state.specs.Heads.{handledHead}
+use Rattle.state.specs.Kept.{unmoved}
+
+-- What is left of a round that emitted k emissions, whatever the edges and the local horizons are.
+pub record QueuesRound (h : Head) (pending batch reply : List ℕ) (k : ℕ) (r : Head) (pending′ batch′ : List ℕ) : Type 0 where
+  pub head : r ≡ handledHead h k (r .used)
+  pub state : (E Z : List ℕ) → view r E pending′ Z batch′ ≡ handled (view h E pending Z batch) (emissionsOf k reply)
+
+-- What settling asks: a batch is in hand, in a state that 11 let pass, and the reply has the words of k emissions.
+pub record Settleable (h : Head) (edges pending horizons batch reply : List ℕ) (k : ℕ) : Type 0 where
+  pub lent : Lent h edges pending horizons batch
+  pub in-hand : 0 < h .batch
+  pub words : 8 * k ≤ length reply
+
+-- Rows 19 and 18 of the emissions xs, and what follows them, in the rules' `handBack`.
+abbrev pub lastRows : State → List Emission → List Row
+lastRows s xs = (ltb most (s .next + length xs) ⇒ A.EventSequenceOverflow) ∷ (ltb most-pending (length (s .pending) + length xs) ⇒ A.QueueFull) ∷ []
+
+unfoldable pub settled : State → R.Counters → List Emission → Out
+settled s c xs = unless (lastRows s xs) (lose s c) (commitAt s c (s .stored) xs)
+
+pub record Settles (h : Head) (c : Counters) (edges pending horizons batch : List ℕ) (xs : List Emission) (r : After) (pending′ horizons′ batch′ : List ℕ) : Type 0 where
+  pub gives : out (answerOf (eventsOf (r .head .batch) batch′) (r .answer)) (view (r .head) edges pending′ horizons′ batch′) (countersOf (r .counters)) ≡ settled (view h edges pending horizons batch) (countersOf c) xs
+  pub moves : (es : List Event) → unmoved (answerOf es (r .answer)) ≡ false
