@@ -14,7 +14,7 @@ use Rattle.rules.specs.Answers as A
 use Rattle.rules.specs.Rows.{unless, Out, out, refuse}
 use Rattle.rules.specs.Foreign.{foreign}
 use Rattle.rules.specs.HandBack.{Emission, malformed, processRows, backRows, lose, commitAt, handBack}
-use Rattle.rules.proofs.Tests.{not-both, not-true, not-false}
+use Rattle.rules.proofs.Tests.{not-both}
 use Rattle.rules.proofs.Table.{unless-append}
 use Rattle.replies.specs.Emissions.{emissionsOf}
 use Rattle.replies.specs.Replies.{Owners, Places, Malformed}
@@ -71,73 +71,73 @@ pub findable : (h : Head) (E Q Z B : List ℕ) → Lent h E Q Z B → (8 * h .ba
 unfolding Owners
 findable h E Q Z B l = (omega (arith, few-batch h E Q Z B (l .passes), l .batch-words), batch-owners h E Q Z B (l .passes))
 
-module _ (h : Head) (c : Counters) (E Q Z B : List ℕ) (mask : ℕ) (w : List ℕ) (l : Lent h E Q Z B) where
-  pub back-dead : h .poisoned ≡ true → HandsBack h c E Q Z B mask (emissionsOf (length w / 8) w) (record { answer = P.Poisoned; head = h; counters = c }) Q Z B
+-- 26, by the table of places.
+pub malformed-by : (q : List Event) (mask : ℕ) (T : List ℕ) (xs : List Emission) (t : Bool) → Places q T → Malformed mask T xs t → malformed q mask xs ≡ t
+unfolding Malformed
+malformed-by q mask T xs t p m = sym (m q p)
+
+-- What 27 to 33 and what follows ask of the reply's words.
+module _ (h : Head) (E Q Z B : List ℕ) (mask : ℕ) (w : List ℕ) (l : Lent h E Q Z B) where
+  pub judgeable : malformed (eventsOf (h .batch) B) mask (emissionsOf (length w / 8) w) ≡ false → Judgeable h E Z × Replied (h .batch) B mask (length w / 8) w
+  judgeable e = (
+    record { few = few-processes h E Q Z B (l .passes); edge-words = omega (arith, few-edges h E Q Z B (l .passes), l .edge-words); horizon-words = l .horizon-words },
+    record { batch-words = findable h E Q Z B l .0; reply-words = whole w; owners = findable h E Q Z B l .1; order = batch-order h E Q Z B (l .passes); formed = e },
+  )
+
+  pub settleable : (h .batch ≡ 0 → ⊥) → Settleable h E Q Z B w (length w / 8)
+  settleable n = record { lent = l; in-hand = omega arith; words = whole w }
+
+-- A reply of the emissions xs, in whatever form they were lent.
+module _ (h : Head) (c : Counters) (E Q Z B : List ℕ) (mask : ℕ) (xs : List Emission) (l : Lent h E Q Z B) where
+  pub back-dead : h .poisoned ≡ true → HandsBack h c E Q Z B mask xs (record { answer = P.Poisoned; head = h; counters = c }) Q Z B
   back-dead p = record {
-    gives = sym (row-12 (view h E Q Z B) (countersOf c) mask (emissionsOf (length w / 8) w) (l .passes) p);
+    gives = sym (row-12 (view h E Q Z B) (countersOf c) mask xs (l .passes) p);
     kept = λ es x. record { same-head = refl; same-counters = refl; same-edges = refl; same-pending = refl; same-horizons = refl; same-batch = refl };
   }
 
   module _ (p : h .poisoned ≡ false) where
-    pub back-empty : h .batch ≡ 0 → HandsBack h c E Q Z B mask (emissionsOf (length w / 8) w) (record { answer = P.NoBatch; head = h; counters = c }) Q Z B
+    pub back-empty : h .batch ≡ 0 → HandsBack h c E Q Z B mask xs (record { answer = P.NoBatch; head = h; counters = c }) Q Z B
     back-empty e = record {
-      gives = sym (row-25 (view h E Q Z B) (countersOf c) mask (emissionsOf (length w / 8) w) (l .passes) p (none-is _ (no-events (eventAt B) 0 (h .batch) (omega arith))));
+      gives = sym (row-25 (view h E Q Z B) (countersOf c) mask xs (l .passes) p (none-is _ (no-events (eventAt B) 0 (h .batch) (omega arith))));
       kept = λ es x. record { same-head = refl; same-counters = refl; same-edges = refl; same-pending = refl; same-horizons = refl; same-batch = refl };
     }
 
     module _ (n : h .batch ≡ 0 → ⊥) where
-      in-hand : 0 < h .batch
-      in-hand = omega arith
-
       held : nonEmpty (eventsOf (h .batch) B) ≡ true
-      held = some-events (eventAt B) 0 (h .batch) in-hand
+      held = some-events (eventAt B) 0 (h .batch) (omega arith)
 
-      module _ (T : List ℕ) (t : Bool) (pl : Places (eventsOf (h .batch) B) T) (ma : Malformed mask T (emissionsOf (length w / 8) w) t) where
-        malformed-is : (b : Bool) → t ≡ b → malformed (eventsOf (h .batch) B) mask (emissionsOf (length w / 8) w) ≡ b
-        unfolding Malformed
-        malformed-is b e = sym (ma (eventsOf (h .batch) B) pl) ∙ e
+      pub back-malformed : malformed (eventsOf (h .batch) B) mask xs ≡ true → HandsBack h c E Q Z B mask xs (record { answer = P.MalformedReply; head = h; counters = c }) Q Z B
+      back-malformed e = record {
+        gives = sym (row-26 (view h E Q Z B) (countersOf c) mask xs (l .passes) p held e);
+        kept = λ es x. record { same-head = refl; same-counters = refl; same-edges = refl; same-pending = refl; same-horizons = refl; same-batch = refl };
+      }
 
-        pub back-malformed : t ≡ true → HandsBack h c E Q Z B mask (emissionsOf (length w / 8) w) (record { answer = P.MalformedReply; head = h; counters = c }) Q Z B
-        back-malformed e = record {
-          gives = sym (row-26 (view h E Q Z B) (countersOf c) mask (emissionsOf (length w / 8) w) (l .passes) p held (malformed-is true e));
-          kept = λ es x. record { same-head = refl; same-counters = refl; same-edges = refl; same-pending = refl; same-horizons = refl; same-batch = refl };
+      module _ (e : malformed (eventsOf (h .batch) B) mask xs ≡ false) (v : Verdict) (verdict : Judges (processRows (view h E Q Z B) mask xs (eventsOf (h .batch) B)) v) where
+        refused : (d : Out) → v .sound ≡ false → (es : List Event) → unless (processRows (view h E Q Z B) mask xs (eventsOf (h .batch) B)) (lose (view h E Q Z B) (countersOf c)) d ≡ out (answerOf es (v .answer)) (poison (view h E Q Z B)) (countersOf c)
+        refused d u es = verdict .refused u (view h E Q Z B) (countersOf c) d es
+
+        -- Its answer is none that leaves the state as given, as one that follows the rows.
+        lost : v .sound ≡ false → (es : List Event) → unmoved (answerOf es (v .answer)) ≡ false
+        lost u es =
+            let d : Out = out (A.Committed 0) (view h E Q Z B) (countersOf c) in
+            ap (λ (o : Out). unmoved (o .answer)) (sym (refused d u es))
+            ∙ lost-moves (view h E Q Z B) (view h E Q Z B) (countersOf c) mask xs (eventsOf (h .batch) B) d (committed-moves 0)
+
+        pub back-lost : v .sound ≡ false → (r : After) (B′ : List ℕ) → Loses (v .answer) h c r → HandsBack h c E Q Z B mask xs r Q Z B′
+        unfolding tab
+        back-lost u r B′ d = rw d (record {
+          gives = sym (judged (view h E Q Z B) (countersOf c) mask xs (l .passes) p held e ∙ refused (settled (view h E Q Z B) (countersOf c) xs) u []);
+          kept = λ es x. not-both x (lost u es);
+        })
+
+        pub back-settled : v .sound ≡ true → (r : After) (Q′ Z′ B′ : List ℕ) → Settles h c E Q Z B xs r Q′ Z′ B′ → HandsBack h c E Q Z B mask xs r Q′ Z′ B′
+        back-settled u r Q′ Z′ B′ d = record {
+          gives = d .gives ∙ sym (judged (view h E Q Z B) (countersOf c) mask xs (l .passes) p held e
+              ∙ verdict .passed u (lose (view h E Q Z B) (countersOf c)) (settled (view h E Q Z B) (countersOf c) xs));
+          kept = λ es x. not-both x (d .moves es);
         }
 
-        module _ (e : t ≡ false) where
-          pub judgeable : Judgeable h E Z × Replied (h .batch) B mask (length w / 8) w
-          judgeable = (
-            record { few = few-processes h E Q Z B (l .passes); edge-words = omega (arith, few-edges h E Q Z B (l .passes), l .edge-words); horizon-words = l .horizon-words },
-            record { batch-words = findable h E Q Z B l .0; reply-words = whole w; owners = findable h E Q Z B l .1; order = batch-order h E Q Z B (l .passes); formed = malformed-is false e },
-          )
-
-          pub settleable : Settleable h E Q Z B w (length w / 8)
-          settleable = record { lent = l; in-hand = in-hand; words = whole w }
-
-          module _ (v : Verdict) (ju : JudgesReply h E Z B mask (length w / 8) w v) where
-            verdict : Judges (processRows (view h E Q Z B) mask (emissionsOf (length w / 8) w) (eventsOf (h .batch) B)) v
-            unfolding JudgesReply
-            verdict = ju Q
-
-            refused : (d : Out) → not (v .sound) ≡ true → (es : List Event) → unless (processRows (view h E Q Z B) mask (emissionsOf (length w / 8) w) (eventsOf (h .batch) B)) (lose (view h E Q Z B) (countersOf c)) d ≡ out (answerOf es (v .answer)) (poison (view h E Q Z B)) (countersOf c)
-            refused d u es = verdict .refused (not-true _ u) (view h E Q Z B) (countersOf c) d es
-
-            -- Its answer is none that leaves the state as given, as one that follows the rows.
-            lost : not (v .sound) ≡ true → (es : List Event) → unmoved (answerOf es (v .answer)) ≡ false
-            lost u es =
-                let d : Out = out (A.Committed 0) (view h E Q Z B) (countersOf c) in
-                ap (λ (o : Out). unmoved (o .answer)) (sym (refused d u es))
-                ∙ lost-moves (view h E Q Z B) (view h E Q Z B) (countersOf c) mask (emissionsOf (length w / 8) w) (eventsOf (h .batch) B) d (committed-moves 0)
-
-            pub back-lost : not (v .sound) ≡ true → (r : After) (B′ : List ℕ) → Loses (v .answer) h c r → HandsBack h c E Q Z B mask (emissionsOf (length w / 8) w) r Q Z B′
-            unfolding tab
-            back-lost u r B′ d = rw d (record {
-              gives = sym (judged (view h E Q Z B) (countersOf c) mask (emissionsOf (length w / 8) w) (l .passes) p held (malformed-is false e) ∙ refused (settled (view h E Q Z B) (countersOf c) (emissionsOf (length w / 8) w)) u []);
-              kept = λ es x. not-both x (lost u es);
-            })
-
-            pub back-settled : not (v .sound) ≡ false → (r : After) (Q′ Z′ B′ : List ℕ) → Settles h c E Q Z B (emissionsOf (length w / 8) w) r Q′ Z′ B′ → HandsBack h c E Q Z B mask (emissionsOf (length w / 8) w) r Q′ Z′ B′
-            back-settled u r Q′ Z′ B′ d = record {
-              gives = d .gives ∙ sym (judged (view h E Q Z B) (countersOf c) mask (emissionsOf (length w / 8) w) (l .passes) p held (malformed-is false e)
-                  ∙ verdict .passed (not-false _ u) (lose (view h E Q Z B) (countersOf c)) (settled (view h E Q Z B) (countersOf c) (emissionsOf (length w / 8) w)));
-              kept = λ es x. not-both x (d .moves es);
-            }
+-- The verdict of a reply in words.
+pub verdict-of : (h : Head) (E Q Z B : List ℕ) (mask k : ℕ) (w : List ℕ) (v : Verdict) → JudgesReply h E Z B mask k w v → Judges (processRows (view h E Q Z B) mask (emissionsOf k w) (eventsOf (h .batch) B)) v
+unfolding JudgesReply
+verdict-of h E Q Z B mask k w v j = j Q

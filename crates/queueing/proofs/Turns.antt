@@ -23,7 +23,7 @@ use Rattle.replies.specs.Emissions.{emissionOf, emissionIn, emissionAt, emissio
 use Rattle.queueing.specs.Queued.{Queueable, Queued}
 
 -- What is the same from a on is so from b on.
-drop-further : (a b : ℕ) (u v : List ℕ) → a ≤ b → drop a u ≡ drop a v → drop b u ≡ drop b v
+pub drop-further : (a b : ℕ) (u v : List ℕ) → a ≤ b → drop a u ≡ drop a v → drop b u ≡ drop b v
 drop-further a b u v l h =
     let e : a + (b - a) ≡ b = omega arith in
     rw e at (sym (drop-drop (b - a) a u) ∙ ap (drop (b - a)) h ∙ drop-drop (b - a) a v)

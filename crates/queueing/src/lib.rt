@@ -14,7 +14,7 @@ ghost use Rattle.replies.specs.Emissions.{emissionOf, emissionsOf};
 ghost use Rattle.queueing.specs.Queued.{Queueable, Queued};
 
 // The emission as a pending record with the sequence number seq.
-fn record_of(e: Emission, seq: u64) -> Record
+pub fn record_of(e: Emission, seq: u64) -> Record
     ensures { λ r. ⌜ eventOf r ≡ numbered (emissionOf e .message) seq ⌝ }
 {
     Record {

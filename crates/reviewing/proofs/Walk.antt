@@ -18,19 +18,19 @@ use Rattle.rules.proofs.Order.{Pairs, rising-pairs}
 use Rattle.judging.specs.Judges.{rowsOf}
 use Rattle.reviewing.specs.Turns.{ownRows, behind}
 
-abbrev Earlier : Event → Event → Type 0
+abbrev pub Earlier : Event → Event → Type 0
 Earlier e f = e .destination < f .destination
 
-abbrev NotLater : Emission → Emission → Type 0
+abbrev pub NotLater : Emission → Emission → Type 0
 NotLater x y = x .emitter ≤ y .emitter
 
-abbrev From : ℕ → Emission → Type 0
+abbrev pub From : ℕ → Emission → Type 0
 From p x = p ≤ x .emitter
 
-abbrev Past : ℕ → Emission → Type 0
+abbrev pub Past : ℕ → Emission → Type 0
 Past p x = p < x .emitter
 
-abbrev In : List Event → Emission → Type 0
+abbrev pub In : List Event → Emission → Type 0
 In es x = inBatch es (x .emitter) ≡ true
 
 -- The events rise by process, the emitters do not fall, and each is among the events.
@@ -39,10 +39,10 @@ pub record InTurn (es : List Event) (xs : List Emission) : Type 0 where
   pub emissions : Pairs NotLater xs
   pub known : All (In es) xs
 
-past : (p : ℕ) (x : Emission) (xs : List Emission) → Past p x → All (NotLater x) xs → All (Past p) xs
+pub past : (p : ℕ) (x : Emission) (xs : List Emission) → Past p x → All (NotLater x) xs → All (Past p) xs
 past p x xs h i = all-map (NotLater x) (Past p) (λ y l. omega arith) xs i
 
-beyond : (p : ℕ) (x : Emission) → From p x → eqb (x .emitter) p ≡ false → Past p x
+pub beyond : (p : ℕ) (x : Emission) → From p x → eqb (x .emitter) p ≡ false → Past p x
 beyond p x h b = let n : (x .emitter ≡ p → ⊥) = eqb-false (x .emitter) p b in omega arith
 
 module _ (s : State) where
@@ -84,7 +84,7 @@ behind-order p (x ∷ xs) o = by-bool (eqb (x .emitter) p) (λ b. rw b (behind-o
 
 module _ (e : Event) (es : List Event) where
   -- An emitter among the events is the first's process or past it; past it, it is among the others.
-  in-from : All (Earlier e) es → (x : Emission) → In (e ∷ es) x → From (e .destination) x
+  pub in-from : All (Earlier e) es → (x : Emission) → In (e ∷ es) x → From (e .destination) x
   unfolding inBatch any
   in-from a x h =
       or-cases (eqb (e .destination) (x .emitter)) (inBatch es (x .emitter)) h
@@ -111,7 +111,7 @@ module _ (e : Event) (es : List Event) where
 
   -- One event's turn.
   module _ (xs : List Emission) (t : InTurn (e ∷ es) xs) where
-    from : All (From (e .destination)) xs
+    pub from : All (From (e .destination)) xs
     from = all-map (In (e ∷ es)) (From (e .destination)) (in-from (t .events .0)) xs (t .known)
 
     pub turn : (s : State) (mask : ℕ) → processRows s mask xs (e ∷ es) ≡ (failed mask (e .destination) ⇒ A.HandlerFailed (e .destination)) ∷ (ownRows s (e .tick) (e .destination) xs ++ processRows s mask (behind (e .destination) xs) es)

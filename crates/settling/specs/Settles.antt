@@ -11,7 +11,6 @@ use Rattle.rules.specs.State.{Event, State, most, most-pending}
 use Rattle.rules.specs.Answers as A
 use Rattle.rules.specs.Rows.{Row, _⇒_, unless, Out, out}
 use Rattle.rules.specs.HandBack.{Emission, handled, commitAt, lose}
-use Rattle.replies.specs.Emissions.{emissionsOf}
 use Rattle.state.specs.declared.Head.{Head}
 use Rattle.state.specs.declared.Counters.{Counters}
 use Rattle.state.specs.declared.After.{After}
@@ -20,10 +19,10 @@ use Rattle.state.specs.Lent.{Lent}
 use Rattle.state.specs.Heads.{handledHead}
 use Rattle.state.specs.Kept.{unmoved}
 
--- What is left of a round that emitted k emissions, whatever the edges and the local horizons are.
-pub record QueuesRound (h : Head) (pending batch reply : List ℕ) (k : ℕ) (r : Head) (pending′ batch′ : List ℕ) : Type 0 where
+-- What is left of a round that emitted the k emissions xs, whatever the edges and the local horizons are.
+pub record QueuesRound (h : Head) (pending batch : List ℕ) (xs : List Emission) (k : ℕ) (r : Head) (pending′ batch′ : List ℕ) : Type 0 where
   pub head : r ≡ handledHead h k (r .used)
-  pub state : (E Z : List ℕ) → view r E pending′ Z batch′ ≡ handled (view h E pending Z batch) (emissionsOf k reply)
+  pub state : (E Z : List ℕ) → view r E pending′ Z batch′ ≡ handled (view h E pending Z batch) xs
 
 -- What settling asks: a batch is in hand, in a state that 11 let pass, and the reply has the words of k emissions.
 pub record Settleable (h : Head) (edges pending horizons batch reply : List ℕ) (k : ℕ) : Type 0 where

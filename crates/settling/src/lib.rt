@@ -23,7 +23,7 @@ fn queue_round(
     emitted: usize,
 ) -> Head
     requires { ⌜ Queueable (head .pending) (head .next) emitted (now reply) (now pending) × (8 * head .batch ≤ length (now batch)) ⌝ }
-    ensures { λ r. ⌜ QueuesRound head (now (pending .entry)) (now (batch .entry)) (now (reply .entry)) emitted r (now (pending .exit)) (now (batch .exit)) ⌝ }
+    ensures { λ r. ⌜ QueuesRound head (now (pending .entry)) (now (batch .entry)) (emissionsOf emitted (now (reply .entry))) emitted r (now (pending .exit)) (now (batch .exit)) ⌝ }
 {
     let count = head.pending;
     let next = head.next;

@@ -1,5 +1,7 @@
 use borrow.Author.Needs.{needs}
-use Rattle.handing.proofs.Back.{back-dead, back-empty, findable, back-malformed, judgeable, back-lost, settleable, back-settled}
+use mathlib.Core.Path.{_∙_}
+use Rattle.rules.proofs.Tests.{not-true, not-false}
+use Rattle.handing.proofs.Back.{findable, malformed-by, judgeable, settleable, back-dead, back-empty, back-malformed, back-lost, back-settled, verdict-of}
 use Rattle.handing.proofs.hand_back.Statement.{statement}
 use Rattle.handing.proofs.hand_back.Tie as tie
 
@@ -41,7 +43,7 @@ returns-3 c =
     let held = found .before .before .before in
     let healthy = held .before .before in
     let start = healthy .before .before .before .before .before .before in
-    back-malformed (start .args .head) (start .args .counters) _ _ _ _ (start .args .mask) _ (start .pre) (healthy .if1 .left) (held .if2 .left) _ _ (found .find-places .ensures) (malformed .malformed .ensures) (c .if3 .taken)
+    back-malformed (start .args .head) (start .args .counters) _ _ _ _ (start .args .mask) _ (start .pre) (healthy .if1 .left) (held .if2 .left) (malformed-by _ (start .args .mask) _ _ _ (found .find-places .ensures) (malformed .malformed .ensures) ∙ c .if3 .taken)
 
 judge-reply-requires : tie.Need-judge-reply-requires
 judge-reply-requires c κs =
@@ -51,7 +53,7 @@ judge-reply-requires c κs =
     let held = found .before .before .before in
     let healthy = held .before .before in
     let start = healthy .before .before .before .before .before .before in
-    judgeable (start .args .head) (start .args .counters) _ _ _ _ (start .args .mask) _ (start .pre) (healthy .if1 .left) (held .if2 .left) _ _ (found .find-places .ensures) (malformed .malformed .ensures) (formed .if3 .left)
+    judgeable (start .args .head) _ _ _ _ (start .args .mask) _ (start .pre) (malformed-by _ (start .args .mask) _ _ _ (found .find-places .ensures) (malformed .malformed .ensures) ∙ formed .if3 .left)
 
 lose-requires : tie.Need-lose-requires
 lose-requires c κs =
@@ -81,7 +83,7 @@ returns-4 c =
     let held = found .before .before .before in
     let healthy = held .before .before in
     let start = healthy .before .before .before .before .before .before in
-    back-lost (start .args .head) (start .args .counters) _ _ _ _ (start .args .mask) _ (start .pre) (healthy .if1 .left) (held .if2 .left) _ _ (found .find-places .ensures) (malformed .malformed .ensures) (formed .if3 .left) (judged .judge-reply .result) (judged .judge-reply .ensures) (unsound .if4 .taken) (lose .lose .result) _ (lose .lose .ensures)
+    back-lost (start .args .head) (start .args .counters) _ _ _ _ (start .args .mask) _ (start .pre) (healthy .if1 .left) (held .if2 .left) (malformed-by _ (start .args .mask) _ _ _ (found .find-places .ensures) (malformed .malformed .ensures) ∙ formed .if3 .left) (judged .judge-reply .result) (verdict-of (start .args .head) _ _ _ _ (start .args .mask) _ _ _ (judged .judge-reply .ensures)) (not-true _ (unsound .if4 .taken)) (lose .lose .result) _ (lose .lose .ensures)
 
 settle-requires : tie.Need-settle-requires
 settle-requires c κs =
@@ -92,7 +94,7 @@ settle-requires c κs =
     let held = found .before .before .before in
     let healthy = held .before .before in
     let start = healthy .before .before .before .before .before .before in
-    settleable (start .args .head) (start .args .counters) _ _ _ _ (start .args .mask) _ (start .pre) (healthy .if1 .left) (held .if2 .left) _ _ (found .find-places .ensures) (malformed .malformed .ensures) (formed .if3 .left)
+    settleable (start .args .head) _ _ _ _ (start .args .mask) _ (start .pre) (held .if2 .left)
 
 same-length-4 : tie.Need-same-length-4
 same-length-4 c = search needs
@@ -114,7 +116,7 @@ returns-5 c =
     let held = found .before .before .before in
     let healthy = held .before .before in
     let start = healthy .before .before .before .before .before .before in
-    back-settled (start .args .head) (start .args .counters) _ _ _ _ (start .args .mask) _ (start .pre) (healthy .if1 .left) (held .if2 .left) _ _ (found .find-places .ensures) (malformed .malformed .ensures) (formed .if3 .left) (judged .judge-reply .result) (judged .judge-reply .ensures) (sound .if4 .left) (settle .settle .result) _ _ _ (settle .settle .ensures)
+    back-settled (start .args .head) (start .args .counters) _ _ _ _ (start .args .mask) _ (start .pre) (healthy .if1 .left) (held .if2 .left) (malformed-by _ (start .args .mask) _ _ _ (found .find-places .ensures) (malformed .malformed .ensures) ∙ formed .if3 .left) (judged .judge-reply .result) (verdict-of (start .args .head) _ _ _ _ (start .args .mask) _ _ _ (judged .judge-reply .ensures)) (not-false _ (sound .if4 .left)) (settle .settle .result) _ _ _ (settle .settle .ensures)
 
 pub hand-back-spec : {M : Type 1} → statement M
 hand-back-spec =

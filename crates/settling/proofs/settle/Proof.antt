@@ -1,5 +1,6 @@
 use native.Mathlib.Omega.{arith}
 use borrow.Author.Needs.{needs}
+use Rattle.words.proofs.Tab.{length-tab}
 use Rattle.state.proofs.Facts.{few-pending, few-batch}
 use Rattle.settling.proofs.Settling.{settle-late, settle-full, queueable, concludable, settle-on}
 use Rattle.settling.proofs.settle.Statement.{statement}
@@ -23,7 +24,7 @@ returns c =
     let late = lose .before .before in
     let known = late .before in
     let start = known .before .before .before .before .before .before in
-    settle-late (start .args .head) (start .args .counters) _ _ _ _ _ _ (start .pre) (lose .lose .result) _ (late .if1 .taken) (lose .lose .ensures)
+    settle-late (start .args .head) (start .args .counters) _ _ _ _ _ _ (length-tab _ 0 _) (start .pre .lent) (start .pre .in-hand) (lose .lose .result) _ (late .if1 .taken) (lose .lose .ensures)
 
 sub-if2 : tie.Need-sub-if2
 sub-if2 c =
@@ -48,7 +49,7 @@ returns-2 c =
     let in-time = full .before .before in
     let known = in-time .before in
     let start = known .before .before .before .before .before .before in
-    settle-full (start .args .head) (start .args .counters) _ _ _ _ _ _ (start .pre) (in-time .if1 .left) (omega (arith, sub-if1 known)) (lose .lose2 .result) _ (full .if2 .taken) (lose .lose2 .ensures)
+    settle-full (start .args .head) (start .args .counters) _ _ _ _ _ _ (length-tab _ 0 _) (start .pre .lent) (start .pre .in-hand) (in-time .if1 .left) (omega (arith, sub-if1 known)) (lose .lose2 .result) _ (full .if2 .taken) (lose .lose2 .ensures)
 
 count-remote-requires : tie.Need-count-remote-requires
 count-remote-requires c κs = search needs
@@ -62,7 +63,7 @@ queue-round-requires c κs =
     let in-time = roomy .before .before in
     let known = in-time .before in
     let start = known .before .before .before .before .before .before in
-    (queueable (start .args .head) (start .args .counters) _ _ _ _ _ _ (start .pre) (in-time .if1 .left) (omega (arith, sub-if1 known)) (roomy .if2 .left), omega (arith, few-batch (start .args .head) _ _ _ _ (start .pre .lent .passes), start .pre .lent .batch-words))
+    (queueable (start .args .head) _ _ _ _ _ _ (start .pre) (in-time .if1 .left) (omega (arith, sub-if1 known)) (roomy .if2 .left), omega (arith, few-batch (start .args .head) _ _ _ _ (start .pre .lent .passes), start .pre .lent .batch-words))
 
 conclude-requires : tie.Need-conclude-requires
 conclude-requires c κs =
@@ -73,7 +74,7 @@ conclude-requires c κs =
     let in-time = roomy .before .before in
     let known = in-time .before in
     let start = known .before .before .before .before .before .before in
-    concludable (start .args .head) (start .args .counters) _ _ _ _ _ _ (start .pre) (in-time .if1 .left) (omega (arith, sub-if1 known)) (roomy .if2 .left) _ _ (queue .queue-round .result) (queue .queue-round .ensures) (search needs)
+    concludable (start .args .head) _ _ _ _ _ (start .pre .lent) (start .pre .in-hand) (roomy .if2 .left) _ (queue .queue-round .result) _ (queue .queue-round .ensures .head) (search needs)
 
 same-length-3 : tie.Need-same-length-3
 same-length-3 c = search needs
@@ -94,7 +95,7 @@ returns-3 c =
     let in-time = roomy .before .before in
     let known = in-time .before in
     let start = known .before .before .before .before .before .before in
-    settle-on (start .args .head) (start .args .counters) _ _ _ _ _ _ (start .pre) (in-time .if1 .left) (omega (arith, sub-if1 known)) (roomy .if2 .left) _ _ (queue .queue-round .result) (queue .queue-round .ensures) (counted .count-round .result) _ _ (conclude .conclude .result) (remote .count-remote .ensures) (counted .count-round .ensures) (conclude .conclude .ensures)
+    settle-on (start .args .head) (start .args .counters) _ _ _ _ _ _ (length-tab _ 0 _) (start .pre .lent) (start .pre .in-hand) (in-time .if1 .left) (omega (arith, sub-if1 known)) (roomy .if2 .left) _ _ (queue .queue-round .result) (queue .queue-round .ensures) (counted .count-round .result) _ _ (conclude .conclude .result) (remote .count-remote .ensures) (counted .count-round .ensures) (conclude .conclude .ensures)
 
 pub settle-spec : {M : Type 1} → statement M
 settle-spec =
