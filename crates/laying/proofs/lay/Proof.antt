@@ -1,0 +1,70 @@
+use borrow.Author.Needs.{needs}
+use Rattle.laying.proofs.Laying.{findable, lay-refused, lay-laid}
+use Rattle.laying.proofs.lay.Statement.{statement}
+use Rattle.laying.proofs.lay.Tie as tie
+
+slice-aggregate-find-places : tie.Need-slice-aggregate-find-places
+slice-aggregate-find-places c = search needs
+
+find-places-requires : tie.Need-find-places-requires
+find-places-requires c κs =
+    let start = c .before .before .before .before .before .before in
+    let f = findable (start .args .head) _ _ _ _ (start .args .mask) (start .pre .1) in
+    (f .0, search needs, f .1)
+
+slice-aggregate-strange-mask : tie.Need-slice-aggregate-strange-mask
+slice-aggregate-strange-mask c = search needs
+
+strange-mask-requires : tie.Need-strange-mask-requires
+strange-mask-requires c κs = search needs
+
+refuse-requires : tie.Need-refuse-requires
+refuse-requires c κs = search needs
+
+returns : tie.Need-returns
+returns c =
+    let strange = c .before .before in
+    let found = strange .before .before .before in
+    let start = found .before .before .before .before .before .before .before in
+    lay-refused (start .args .head) _ _ _ _ (start .args .mask) (start .pre .1) _ (found .find-places .ensures) _ (strange .strange-mask .ensures) (c .before .if1 .taken) _ _ (c .refuse .ensures)
+
+slice-aggregate-fill : tie.Need-slice-aggregate-fill
+slice-aggregate-fill c = search needs
+
+fill-requires : tie.Need-fill-requires
+fill-requires c κs = search needs
+
+first-failed-requires : tie.Need-first-failed-requires
+first-failed-requires c κs =
+    let known = c .before .before .before .before .before in
+    let found = known .before .before .before .before in
+    let start = found .before .before .before .before .before .before .before in
+    findable (start .args .head) _ _ _ _ (start .args .mask) (start .pre .1)
+
+same-length : tie.Need-same-length
+same-length c = search needs
+
+returns-2 : tie.Need-returns-2
+returns-2 c =
+    let fill = c .before .before .before in
+    let known = fill .before .before .before in
+    let strange = known .before in
+    let found = strange .before .before .before in
+    let start = found .before .before .before .before .before .before .before in
+    lay-laid (start .args .head) _ _ _ _ (start .args .mask) (start .pre .1) _ (found .find-places .ensures) _ (strange .strange-mask .ensures) (known .if1 .left) (search needs) _ (fill .fill .ensures) _ (c .first-failed .ensures)
+
+pub lay-spec : {M : Type 1} → statement M
+lay-spec =
+    tie.close
+    (tie.spec
+    slice-aggregate-find-places
+    find-places-requires
+    slice-aggregate-strange-mask
+    strange-mask-requires
+    refuse-requires
+    returns
+    slice-aggregate-fill
+    fill-requires
+    first-failed-requires
+    same-length
+    returns-2)

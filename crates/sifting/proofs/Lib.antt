@@ -1,0 +1,4 @@
+pub mod Next
+pub mod One
+pub mod Snoc
+pub mod Taking
