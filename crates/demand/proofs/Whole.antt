@@ -1,5 +1,5 @@
 -- What the check proves of each function is what a link of the theorem holds.
-use mathlib.Core.Path.{_≡_, ap, _∙_}
+use mathlib.Core.Path.{_≡_, refl, ap, _∙_}
 use mathlib.Core.List.{List, [], _∷_, map}
 use Rattle.state.specs.declared.Runtime.{Runtime}
 use Rattle.state.specs.declared.Counters.{Counters}
@@ -15,9 +15,16 @@ use Rattle.runtime.proofs.step.Met as step-met
 use Rattle.runtime.proofs.hand_back.Met as back-met
 use Rattle.reads.proofs.read_counters.Met as counters-met
 use Rattle.reads.proofs.read_pending.Met as pending-met
+use Rattle.host.proofs.build.Met as lent-build-met
+use Rattle.host.proofs.add_initial.Met as lent-initial-met
+use Rattle.host.proofs.begin.Met as lent-begin-met
+use Rattle.host.proofs.step.Met as lent-step-met
+use Rattle.host.proofs.hand_back.Met as lent-back-met
+use Rattle.host.proofs.read_counters.Met as lent-counters-met
+use Rattle.host.proofs.read_pending.Met as lent-pending-met
 use Rattle.demand.specs.Links.{Link, Carried}
 use Rattle.demand.specs.Proved.{Proved}
-use Rattle.demand.specs.Whole.{Asked, AddInitial, Begin, Step, HandBack, Done, Learns, Ran, callOf, linkOf, ReadAfter, Whole}
+use Rattle.demand.specs.Whole.{Asked, AddInitial, Begin, Step, HandBack, HandBackRecords, Done, Learns, Ran, callOf, linkOf, ReadAfter, Whole}
 use Rattle.demand.proofs.Demanded.{demand-3-of-the-program}
 
 carries : (s : Runtime) (c : Counters) (k : Asked) (r : Called) → Learns s c k r → Carries (callOf k) s c (r .answer) (r .state) (r .counters)
@@ -25,6 +32,7 @@ carries s c (AddInitial m) r l = l
 carries s c (Begin h b) r l = l
 carries s c Step r l = l
 carries s c (HandBack κs mask reply) r l = l
+carries s c (HandBackRecords mask ys) r l = l
 
 carried : (s : Runtime) (c : Counters) (ds : List Done) → Ran s c ds → Carried s c (map linkOf ds)
 carried s c [] i = tt
@@ -46,6 +54,22 @@ whole = record {
   hand-back-meets = back-met.met;
   read-counters-meets = counters-met.met;
   read-pending-meets = pending-met.met;
+  lent-build-meets = lent-build-met.met;
+  lent-initial-meets = lent-initial-met.met;
+  lent-begin-meets = lent-begin-met.met;
+  lent-step-meets = lent-step-met.met;
+  lent-back-meets = lent-back-met.met;
+  lent-counters-meets = lent-counters-met.met;
+  lent-pending-meets = lent-pending-met.met;
+  lent = λ 𝓤 H A mem run. record {
+    build = λ κs n L ids sources counts destinations c d r. refl;
+    add-initial = λ κs s c d m r. refl;
+    begin = λ κs s c d t b r. refl;
+    step = λ κs s c d r. refl;
+    hand-back = λ κs s c d mask reply r. refl;
+    read-counters = λ κs s c a. refl;
+    read-pending = λ κs s c a. refl;
+  };
   demand-3 = λ κs n L ids sources counts ds c r b e xs i.
       let p = demand-3-of-the-program _ c r b e (map linkOf xs) (carried (r .state) (r .counters) xs i) in
       (p, read-after _ r (map linkOf xs) p);
