@@ -73,50 +73,59 @@ fn timed_in_place(scenario: &Scenario) -> scenario::Ended {
     in_place::run(scenario)
 }
 
-/// The least times of one scenario.
-struct Times {
+/// A scenario's lists of calls, and the least times so far.
+struct Timed {
+    given: Scenario,
+    few: Scenario,
+    many: Scenario,
     short: Recorded,
     long: Recorded,
-    threads: f64,
-    in_place: f64,
-    cores: f64,
-    calls: f64,
+    least: [f64; 4],
 }
 
-fn measure(given: &Scenario, repetitions: usize, with_threads: bool) -> Times {
-    let few = lasting(given, SHORT);
-    let many = lasting(given, LONG);
-    let (short, long) = (record(&few), record(&many));
-    let (ours_short, ours) = (Given::new(&few, &short), Given::new(&many, &long));
-    let name = &given.name;
-    assert_eq!(threads::run(&few), short.ended, "{name}: (i)");
-    assert_eq!(timed_in_place(&few), short.ended, "{name}: (ii)");
-    assert_eq!(ours_short.cores(), short.ended, "{name}: (iii)");
-    assert_eq!(ours_short.calls(), short.ended, "{name}: (iv)");
-    let mut least = [f64::INFINITY; 4];
-    let mut keep = |at: usize, time: f64| least[at] = least[at].min(time);
-    for repetition in 0..repetitions {
-        if with_threads && repetition < 5 {
-            keep(
-                0,
-                nanoseconds(|| assert_eq!(threads::run(&few), short.ended)),
-            );
+impl Timed {
+    /// The four ways are compared on the short list; in each repetition they are again.
+    fn new(given: Scenario) -> Self {
+        let few = lasting(&given, SHORT);
+        let many = lasting(&given, LONG);
+        let (short, long) = (record(&few), record(&many));
+        let (ours, name) = (Given::new(&few, &short), &given.name);
+        assert_eq!(threads::run(&few), short.ended, "{name}: (i)");
+        assert_eq!(timed_in_place(&few), short.ended, "{name}: (ii)");
+        assert_eq!(ours.cores(), short.ended, "{name}: (iii)");
+        assert_eq!(ours.calls(), short.ended, "{name}: (iv)");
+        Self {
+            given,
+            few,
+            many,
+            short,
+            long,
+            least: [f64::INFINITY; 4],
         }
-        keep(
-            1,
-            nanoseconds(|| assert_eq!(timed_in_place(&many), long.ended)),
-        );
-        keep(2, nanoseconds(|| assert_eq!(ours.cores(), long.ended)));
-        keep(3, nanoseconds(|| assert_eq!(ours.calls(), long.ended)));
     }
-    let [threads, in_place, cores, calls] = least;
-    Times {
-        short,
-        long,
-        threads,
-        in_place,
-        cores,
-        calls,
+
+    fn repeat(&mut self, with_threads: bool) {
+        let (few, many) = (&self.few, &self.many);
+        let (short, long) = (self.short.ended, self.long.ended);
+        let ours = Given::new(many, &self.long);
+        let mut keep = |way: usize, time: f64| self.least[way] = self.least[way].min(time);
+        if with_threads {
+            keep(0, nanoseconds(|| assert_eq!(threads::run(few), short)));
+        }
+        keep(1, nanoseconds(|| assert_eq!(timed_in_place(many), long)));
+        keep(2, nanoseconds(|| assert_eq!(ours.cores(), long)));
+        keep(3, nanoseconds(|| assert_eq!(ours.calls(), long)));
+    }
+
+    /// Nanoseconds of a way for each of what is counted there.
+    fn each(&self, way: usize, what: usize) -> f64 {
+        let ended = if way == 0 { &self.short } else { &self.long }.ended;
+        self.least[way] / ended[what] as f64
+    }
+
+    /// How many times as long as (iii) a round takes.
+    fn ratio(&self, way: usize) -> f64 {
+        self.each(way, ROUNDS) / self.each(2, ROUNDS)
     }
 }
 
@@ -125,7 +134,7 @@ fn copy_time() -> f64 {
     let from = vec![1u64; STATE_WORDS];
     let mut to = vec![0u64; STATE_WORDS];
     let mut least = f64::INFINITY;
-    for _ in 0..1000 {
+    for _ in 0..100 {
         let time = nanoseconds(|| {
             for _ in 0..100 {
                 black_box(&mut to).copy_from_slice(black_box(&from));
@@ -184,7 +193,7 @@ struct Goals {
     threads: Worst,
     in_place: Worst,
     largest: Worst,
-    waiting: Worst,
+    series: Worst,
     whole: Worst,
     over: Worst,
 }
@@ -196,7 +205,7 @@ impl Goals {
         shown.show("(iii) is at least 50 times as fast as (i)", 50.0);
         let shown = &self.in_place;
         shown.show("(iii) is at least as fast as (ii), in the table", 1.0);
-        let shown = &self.waiting;
+        let shown = &self.series;
         shown.show("(iii) is at least as fast as (ii), in the two series", 1.0);
         let shown = &self.largest;
         shown.show("(iii) is at least 10 times as fast as (ii)", 10.0);
@@ -210,70 +219,62 @@ impl Goals {
     }
 }
 
-fn show_table(repetitions: usize, copy: f64, goals: &mut Goals) {
+fn show_table(table: &[Timed], copy: f64, goals: &mut Goals) {
     println!("                                          |          (i)           |          (ii)          |         (iii)          |          (iv)          |   a round's ratios to (iii)   | (iv): a call, in copies");
     println!("scenario   n edges pending  events rounds |   an event     a round |   an event     a round |   an event     a round |   an event     a round |     (i)      (ii)      (iv)   |     ns    whole  over (iii)");
-    for given in scenario::table() {
-        let t = measure(&given, repetitions, true);
-        let (few, many) = (&t.short.ended, &t.long.ended);
-        let figures = |time: f64, of: &scenario::Ended| {
-            let (event, round) = (time / of[HANDLED] as f64, time / of[ROUNDS] as f64);
-            (format!("{event:>10.0} {round:>11.0}"), round)
-        };
-        let ways = [
-            figures(t.threads, few),
-            figures(t.in_place, many),
-            figures(t.cores, many),
-            figures(t.calls, many),
-        ];
-        let ratio = |way: usize| ways[way].1 / ways[2].1;
-        let calls = t.long.calls as f64;
-        let (call, more) = (t.calls / calls, (t.calls - t.cores) / calls);
-        println!(
-            "{:<8} {:>3} {:>5} {:>7} {:>7} {:>6} | {} | {} | {} | {} | {:>7.1} {:>9.2} {:>9.2}   | {call:>6.0} {:>8.1} {:>11.1}",
+    for t in table {
+        let (given, ended, calls) = (&t.given, t.long.ended, t.long.calls as f64);
+        print!(
+            "{:<8} {:>3} {:>5}",
             given.name,
             given.rows.len(),
-            given.edges(),
-            given.initial.len(),
-            many[HANDLED],
-            many[ROUNDS],
-            ways[0].0,
-            ways[1].0,
-            ways[2].0,
-            ways[3].0,
-            ratio(0),
-            ratio(1),
-            ratio(3),
-            call / copy,
-            more / copy
+            given.edges()
         );
-        goals.threads.take(ratio(0), &given);
-        goals.in_place.take(ratio(1), &given);
-        goals.whole.take(-call / copy, &given);
-        goals.over.take(-more / copy, &given);
+        print!(
+            " {:>7} {:>7} {:>6} |",
+            given.initial.len(),
+            ended[HANDLED],
+            ended[ROUNDS]
+        );
+        for way in 0..4 {
+            print!(
+                " {:>10.0} {:>11.0} |",
+                t.each(way, HANDLED),
+                t.each(way, ROUNDS)
+            );
+        }
+        let (call, over) = (t.least[3] / calls, (t.least[3] - t.least[2]) / calls);
+        print!(
+            " {:>7.1} {:>9.2} {:>9.2}   |",
+            t.ratio(0),
+            t.ratio(1),
+            t.ratio(3)
+        );
+        println!(" {call:>6.0} {:>8.1} {:>11.1}", call / copy, over / copy);
+        goals.threads.take(t.ratio(0), given);
+        goals.in_place.take(t.ratio(1), given);
+        goals.whole.take(-call / copy, given);
+        goals.over.take(-over / copy, given);
         if given.edges() == 512 && given.initial.len() == 256 {
-            goals.largest.take(ratio(1), &given);
+            goals.largest.take(t.ratio(1), given);
         }
     }
 }
 
-fn show_series(title: &str, repetitions: usize, series: &[Scenario], goals: &mut Goals) {
+fn show_series(title: &str, series: &[Timed], goals: &mut Goals) {
     println!("{title}: a round");
     println!("scenario    events rounds |     (ii)    (iii)     (iv) | (ii)/(iii)");
-    for given in series {
-        let t = measure(given, repetitions, false);
-        let round = |time: f64| time / t.long.ended[ROUNDS] as f64;
-        println!(
-            "{:<10} {:>7} {:>6} | {:>8.0} {:>8.0} {:>8.0} | {:>10.2}",
-            given.name,
-            t.long.ended[HANDLED],
-            t.long.ended[ROUNDS],
-            round(t.in_place),
-            round(t.cores),
-            round(t.calls),
-            t.in_place / t.cores
+    for t in series {
+        let ended = t.long.ended;
+        print!(
+            "{:<10} {:>7} {:>6} |",
+            t.given.name, ended[HANDLED], ended[ROUNDS]
         );
-        goals.waiting.take(t.in_place / t.cores, given);
+        for way in 1..4 {
+            print!(" {:>8.0}", t.each(way, ROUNDS));
+        }
+        println!(" | {:>10.2}", t.ratio(1));
+        goals.series.take(t.ratio(1), &t.given);
     }
 }
 
@@ -306,22 +307,28 @@ fn main() {
         return run_once(side, name, rounds.parse().expect("no number of rounds"));
     }
     let repetitions = args.first().map_or(25, |n| n.parse().expect("no number"));
-    let copy = copy_time();
-    println!("nanoseconds (of passed and of CPU time the lesser), the least of {repetitions} repetitions (of (i), at most 5), each of a build, its initial events and all rounds");
-    println!("one copy of a state ({} bytes): {copy:.0}; a handler's event, which only (i) and (ii) run: {:.0}", 8 * STATE_WORDS, handler_time());
+    let timed = |scenarios: Vec<Scenario>| -> Vec<Timed> {
+        scenarios.into_iter().map(Timed::new).collect()
+    };
+    let mut table = timed(scenario::table());
+    let mut idle = timed(scenario::idle());
+    let mut waiting = timed(scenario::waiting());
+    let (mut copy, mut handler) = (f64::INFINITY, f64::INFINITY);
+    // One repetition of all, then the next: what else runs on the machine then meets all alike.
+    for repetition in 0..repetitions {
+        copy = copy.min(copy_time());
+        handler = handler.min(handler_time());
+        table.iter_mut().for_each(|t| t.repeat(repetition % 5 == 0));
+        let series = idle.iter_mut().chain(&mut waiting);
+        series.for_each(|t| t.repeat(false));
+    }
+    println!("nanoseconds (of passed and of CPU time the lesser), the least of {repetitions} repetitions, for (i) of every fifth; each of a build, its initial events and all rounds");
+    println!("one copy of a state ({} bytes): {copy:.0}; a handler's event, which only (i) and (ii) run: {handler:.0}", 8 * STATE_WORDS);
     let mut goals = Goals::default();
-    show_table(repetitions, copy, &mut goals);
-    let idle = scenario::idle();
-    show_series(
-        "two busy processes among idle ones",
-        repetitions,
-        &idle,
-        &mut goals,
-    );
-    let waiting = scenario::waiting();
+    show_table(&table, copy, &mut goals);
+    show_series("two busy processes among idle ones", &idle, &mut goals);
     show_series(
         "one event circulates, the others wait",
-        repetitions,
         &waiting,
         &mut goals,
     );
