@@ -8,8 +8,8 @@ use lib.ListN.{length, getD}
 use Rattle.types.specs.declared.SimTime.{SimTime}
 use Rattle.types.specs.Value.{value}
 use Rattle.words.specs.Words.{tickAt, putTick, filled}
-use Rattle.records.specs.Records.{recordIn, edgeAt, edgesOf, eventAt, eventsOf}
-use Rattle.records.proofs.Stored.{event-tick}
+use Rattle.records.specs.Records.{edgeAt, edgesOf, eventAt, eventsOf}
+use Rattle.records.proofs.Stored.{event-to, event-tick}
 use Rattle.rules.specs.Base.{if_then_else_, Maybe, some}
 use Rattle.rules.specs.State.{Event, Edge}
 use Rattle.rules.specs.Pending.{firstOf, tickOr, firstTick}
@@ -41,10 +41,6 @@ unfolding Fronts
 falling-end edges n w₀ v t i w o e s p h = passing-end _ _ _ _ _ v t i w o e s p h ∙ safe-is (edgesOf n edges) (value t) p
 
 -- First pending ticks.
-event-to : (w : List ℕ) (i : ℕ) → eventAt w i .destination ≡ getD w (8 * i) 0
-unfolding eventAt recordIn
-event-to w i = refl
-
 module _ (pending w : List ℕ) (i : ℕ) where
   pub note-yes : (u : List ℕ) (b : SimTime) → getD pending (8 * i) 0 < 64 → length w ≡ 128 → value b ≡ tickAt pending (8 * i + 1) → u ≡ putTick w (2 * getD pending (8 * i) 0) b → Noted (eventAt pending i) w u
   note-yes u b h l eb eu = rw (event-to pending i, event-tick pending i) (changed-put w u (getD pending (8 * i) 0) b (λ x. tickAt pending (8 * i + 1)) h l eb eu)

@@ -20,6 +20,7 @@ use Rattle.replies.specs.Emissions.{emissionsOf}
 use Rattle.replies.specs.Replies.{Owners, Places, Malformed}
 use Rattle.judging.specs.declared.Verdict.{Verdict}
 use Rattle.judging.specs.Judges.{Judges, Judgeable}
+use Rattle.judging.proofs.InHand.{findable}
 use Rattle.reviewing.specs.Turns.{Replied, JudgesReply}
 use Rattle.state.specs.declared.Head.{Head}
 use Rattle.state.specs.declared.Counters.{Counters}
@@ -28,7 +29,7 @@ use Rattle.state.specs.declared.Answer.the-variants as P
 use Rattle.state.specs.View.{view, countersOf, answerOf}
 use Rattle.state.specs.Kept.{unmoved}
 use Rattle.state.specs.Lent.{Lent}
-use Rattle.state.proofs.Facts.{some-events, no-events, few-processes, few-edges, few-batch, batch-owners, batch-order}
+use Rattle.state.proofs.Facts.{some-events, no-events, few-processes, few-edges, batch-order}
 use Rattle.state.proofs.Moves.{committed-moves, lost-moves}
 use Rattle.concluding.specs.Concludes.{Loses}
 use Rattle.settling.specs.Settles.{lastRows, settled, Settleable, Settles}
@@ -65,11 +66,6 @@ module _ (s : State) (c : R.Counters) (mask : ℕ) (xs : List Emission) (f : for
 -- The reply's words make whole emissions.
 whole : (w : List ℕ) → 8 * (length w / 8) ≤ length w
 whole w = omega arith
-
--- The words of the batch are there, and its processes have places in a table.
-pub findable : (h : Head) (E Q Z B : List ℕ) → Lent h E Q Z B → (8 * h .batch ≤ length B) × Owners (h .batch) B
-unfolding Owners
-findable h E Q Z B l = (omega (arith, few-batch h E Q Z B (l .passes), l .batch-words), batch-owners h E Q Z B (l .passes))
 
 -- 26, by the table of places.
 pub malformed-by : (q : List Event) (mask : ℕ) (T : List ℕ) (xs : List Emission) (t : Bool) → Places q T → Malformed mask T xs t → malformed q mask xs ≡ t

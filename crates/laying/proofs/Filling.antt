@@ -1,6 +1,6 @@
 -- Words copied one behind the other, and the parts of the desk that they make.
 use mathlib.Core.Path.{_≡_, refl, sym, ap, _∙_}
-use mathlib.Core.List.{List, [], _∷_, _++_, append-assoc}
+use mathlib.Core.List.{List, [], _∷_, _++_, append-assoc, append-nil}
 use Prim.Native.Nat.{ℕ, suc, _+_, _≤_, _<_}
 use native.Mathlib.Omega.{arith}
 use native.Mathlib.Nat.{add-zero}
@@ -16,13 +16,9 @@ pub record Copying (at : ℕ) (from w₀ : List ℕ) (i : ℕ) (w : List ℕ) : 
   pub same : length w ≡ length w₀
   pub front : take (at + i) w ≡ take at w₀ ++ take i from
 
-append-none : (l : List ℕ) → l ++ [] ≡ l
-append-none [] = refl
-append-none (x ∷ xs) = ap (λ (l : List ℕ). x ∷ l) (append-none xs)
-
 module _ (at : ℕ) (from w₀ : List ℕ) where
   pub copying-start : Copying at from w₀ 0 w₀
-  copying-start = record { within = omega arith; same = refl; front = rw add-zero (sym (append-none (take at w₀))) }
+  copying-start = record { within = omega arith; same = refl; front = rw add-zero (sym (append-nil (take at w₀))) }
 
   pub copying-more : (i : ℕ) (w : List ℕ) → at + length from ≤ length w₀ → i < length from → Copying at from w₀ i w → Copying at from w₀ (i + 1) (set w (at + i) (getD from i 0))
   copying-more i w room l c =

@@ -11,21 +11,16 @@ use Rattle.rules.specs.Base.{if_then_else_}
 use Rattle.rules.specs.State.{Event}
 use Rattle.rules.specs.HandBack.{failed}
 use Rattle.rules.proofs.Tests.{not-both}
-use Rattle.records.specs.Records.{recordIn, eventAt, eventsOf}
+use Rattle.records.specs.Records.{eventAt, eventsOf}
+use Rattle.records.proofs.Stored.{event-to}
 use Rattle.replies.specs.Replies.{Owners, Places, strangeMask, StrangeMask}
 use Rattle.state.specs.declared.Head.{Head}
 use Rattle.state.specs.declared.Answer.the-variants as P
 use Rattle.state.specs.Lent.{Lent}
-use Rattle.state.proofs.Facts.{few-batch, batch-owners}
 use Rattle.sifting.specs.declared.Sifted.{Sifted}
 use Rattle.sifting.specs.Desks.{placesIn, firstFailed}
 use Rattle.laying.specs.Lays.{Sizes, desk, refusing, starting, Laid, Lays}
 use Rattle.laying.proofs.Filling.{places-there}
-
--- An event's destination where it stands.
-event-to : (B : List ℕ) (i : ℕ) → eventAt B i .destination ≡ getD B (8 * i) 0
-unfolding eventAt recordIn
-event-to B i = refl
 
 module _ (B : List ℕ) (n mask : ℕ) where
   -- The events from i on are left.
@@ -57,10 +52,6 @@ module _ (B : List ℕ) (n mask : ℕ) where
     failing-more t = f ∙ rw (tab-next (eventAt B) i n l, this, t)
 
 module _ (h : Head) (E Q Z B : List ℕ) (mask : ℕ) (l : Lent h E Q Z B) where
-  pub findable : (8 * h .batch ≤ length B) × Owners (h .batch) B
-  unfolding Owners
-  findable = (omega (arith, few-batch h E Q Z B (l .passes), l .batch-words), batch-owners h E Q Z B (l .passes))
-
   pub sizes : (T : List ℕ) → length T ≡ 64 → Sizes Q E Z B T
   sizes T t = record { pending-words = l .pending-words; edge-words = l .edge-words; horizon-words = l .horizon-words; batch-words = l .batch-words; place-words = t }
 

@@ -1,5 +1,5 @@
 -- Records and edges in flat words: equal words say equal records, and what a store leaves of the others.
-use mathlib.Core.Path.{_≡_, sym, ap, _∙_}
+use mathlib.Core.Path.{_≡_, refl, sym, ap, _∙_}
 use mathlib.Core.Logic.{_≢_, ⊎-elim}
 use mathlib.Core.List.{List, [], _∷_, _++_, append-assoc}
 use Prim.Native.Nat.{ℕ, suc, _+_, _-_, _*_, _≤_, _<_}
@@ -60,6 +60,10 @@ edges-cong n u w h = tab-cong _ _ 0 n (λ i a b. edge-cong u w i i (λ k c. h (4
 pub event-read : (w : List ℕ) (i : ℕ) (r : Record) → r ≡ recordIn w (8 * i) → eventAt w i ≡ eventOf r
 unfolding eventAt
 event-read w i r e = ap eventOf (sym e)
+
+pub event-to : (w : List ℕ) (i : ℕ) → eventAt w i .destination ≡ getD w (8 * i) 0
+unfolding eventAt recordIn
+event-to w i = refl
 
 pub event-tick : (w : List ℕ) (i : ℕ) → eventAt w i .tick ≡ tickAt w (8 * i + 1)
 unfolding eventAt recordIn tickAt

@@ -17,12 +17,11 @@ use Rattle.rules.proofs.Built.{makes}
 use Rattle.rules.proofs.Demand.{demand-3}
 use Rattle.state.specs.declared.Head.{Head}
 use Rattle.state.specs.declared.Counters.{Counters}
-use Rattle.state.specs.declared.Runtime.{Runtime}
 use Rattle.state.specs.Lent.{Lent}
 use Rattle.building.specs.declared.BuildAnswer.{BuildAnswer}
 use Rattle.building.specs.declared.BuildAnswer.the-variants as P
 use Rattle.building.specs.Answered.{answerOf, Judges}
-use Rattle.building.specs.LaidOut.{LaysOut}
+use Rattle.building.specs.LaidOut.{LaysOut, noHead}
 use Rattle.building.proofs.BuildAnswer.{the-type}
 use Rattle.building.proofs.Verdicts.{never}
 use Rattle.building.proofs.Judging.{refusals, refusing}
@@ -30,7 +29,7 @@ use Rattle.building.proofs.Laying.{writable}
 use Rattle.rehearsing.specs.declared.Ran.{Ran}
 use Rattle.rehearsing.specs.declared.Rehearsed.{Rehearsed}
 use Rattle.rehearsing.specs.Runs.{Runs}
-use Rattle.rehearsing.specs.Rehearses.{Startable, RehearsesBuilt, Rehearses}
+use Rattle.rehearsing.specs.Rehearses.{Startable, noneCounted, RehearsesBuilt, Rehearses}
 
 -- What was laid out may be lent.
 module _ (n L : ℕ) (ss cs ds : List ℕ) (t : Startable n L ss cs ds) (w E : List ℕ) (h : Head) (l : LaysOut n L ss cs ds w E h) where
@@ -43,10 +42,7 @@ module _ (n L : ℕ) (ss cs ds : List ℕ) (t : Startable n L ss cs ds) (w E : L
     passes = ap foreign (l .state [] (zeroes 4096) (zeroes 512) 128) ∙ t .passes;
   }
 
-  abbrev none-counted : Counters
-  none-counted = record { handled = 0; emitted = 0; remote = 0; rounds = 0; nulls = 0; workers = 0 }
-
-  pub built-rehearsed : (u : List ℕ) (r : Ran) (E′ Q′ Z′ B′ : List ℕ) → Runs h none-counted E (zeroes 4096) (zeroes 128) (zeroes 512) u r E′ Q′ Z′ B′
+  pub built-rehearsed : (u : List ℕ) (r : Ran) (E′ Q′ Z′ B′ : List ℕ) → Runs h noneCounted E (zeroes 4096) (zeroes 128) (zeroes 512) u r E′ Q′ Z′ B′
       → RehearsesBuilt n L ss cs ds u (record { answer = P.Accepted; state = record { edges = E′; pending = Q′; horizons = Z′; batch = B′; head = r .head }; counters = r .counters; calls = r .calls })
   built-rehearsed u r E′ Q′ Z′ B′ g = record {
     answered = refl;
@@ -78,10 +74,11 @@ module _ (n L : ℕ) (ids ss cs ds : List ℕ) (r : BuildAnswer) (j : Judges n L
       refused = λ why y. never why (sym y ∙ g .answered);
     }
 
-  pub turned-away : (w : List ℕ) (s : Runtime) (c : Counters) → OneOf refusals (tagOf the-type r) → Rehearses a w (record { answer = r; state = s; counters = c; calls = 0 })
-  turned-away w s c o = refusing r o (λ why x. record {
+  pub turned-away : (w : List ℕ) (h : Head) → h ≡ noHead → OneOf refusals (tagOf the-type r)
+      → Rehearses a w (record { answer = r; state = record { edges = zeroes 2048; pending = zeroes 4096; horizons = zeroes 128; batch = zeroes 512; head = h }; counters = noneCounted; calls = 0 })
+  turned-away w h e o = refusing r o (λ why x. record {
     answered = λ d. j .of-counters d;
     leaves = λ y. never why (sym x ∙ y);
     demanded = λ y. never why (sym x ∙ y);
-    refused = λ _ _. refl;
+    refused = λ _ _. rw e;
   })

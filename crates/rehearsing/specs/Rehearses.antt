@@ -12,8 +12,11 @@ use Rattle.rules.specs.Foreign.{foreign}
 use Rattle.rules.specs.History.{History, fresh, tell}
 use Rattle.rules.specs.Demand.{Demanded}
 use Rattle.wiring.specs.Wired.{Writable}
+use Rattle.state.specs.declared.Counters.{Counters}
 use Rattle.state.specs.View.{viewOf, countersOf}
+use Rattle.building.specs.declared.BuildAnswer.{BuildAnswer}
 use Rattle.building.specs.Answered.{answerOf}
+use Rattle.building.specs.LaidOut.{nothing}
 use Rattle.calls.specs.Decode.{decodeAll}
 use Rattle.rehearsing.specs.declared.Rehearsed.{Rehearsed}
 
@@ -36,11 +39,17 @@ pub record RehearsesBuilt (n L : ℕ) (sources counts destinations w : List ℕ)
   pub answered : answerOf (r .answer) ≡ Accepted
   pub leaves : (ids : List ℕ) → Leaves (setup n L ids sources counts destinations) w r
 
+abbrev pub noneCounted : Counters
+noneCounted = record { handled = 0; emitted = 0; remote = 0; rounds = 0; nulls = 0; workers = 0 }
+
+-- What a refused build leaves: nothing made, and nothing counted or carried out.
+abbrev pub turnedAway : BuildAnswer → Rehearsed
+turnedAway b = record { answer = b; state = nothing; counters = noneCounted; calls = 0 }
+
 pub record Rehearses (a : Setup) (w : List ℕ) (r : Rehearsed) : Type 0 where
   -- The answer is build's, whatever the counters are.
   pub answered : (c : R.Counters) → answerOf (r .answer) ≡ build a c .answer
   -- Of an accepted build: all calls of the words were carried out, and demand 3 holds of them.
   pub leaves : answerOf (r .answer) ≡ Accepted → Leaves a w r
   pub demanded : answerOf (r .answer) ≡ Accepted → Demanded a (historyOf a w)
-  -- A refused one carries out none.
-  pub refused : (why : Refusal) → answerOf (r .answer) ≡ Refused why → r .calls ≡ 0
+  pub refused : (why : Refusal) → answerOf (r .answer) ≡ Refused why → r ≡ turnedAway (r .answer)

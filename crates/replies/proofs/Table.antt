@@ -18,7 +18,8 @@ use Rattle.rules.specs.State.{Event}
 use Rattle.rules.specs.Pending.{firstOf}
 use Rattle.rules.specs.HandBack.{inBatch}
 use Rattle.rules.proofs.Tests.{by-test}
-use Rattle.records.specs.Records.{recordIn, eventAt, eventsOf}
+use Rattle.records.specs.Records.{eventAt, eventsOf}
+use Rattle.records.proofs.Stored.{event-to}
 use Rattle.replies.specs.Replies.{Owners, placeFrom, Places}
 
 -- A process has place 0 where it is not in the batch.
@@ -55,11 +56,6 @@ place-first w n t p k h e =
 
 pub past-end : (t : List ℕ) (p : ℕ) → length t ≡ 64 → 64 ≤ p → getD t p 0 ≡ 0
 past-end t p l h = let g : length t ≤ p = omega arith in List·getD-eq-default t 0 g
-
--- An event's destination where it stands.
-event-to : (w : List ℕ) (i : ℕ) → eventAt w i .destination ≡ getD w (8 * i) 0
-unfolding eventAt recordIn
-event-to w i = refl
 
 -- The events from i on are passed.
 pub record Placing (w : List ℕ) (n i : ℕ) (t : List ℕ) : Type 0 where

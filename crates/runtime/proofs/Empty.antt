@@ -4,7 +4,7 @@ use mathlib.Core.Bool.{true}
 use Rattle.rules.specs.Base.{any, anyOf}
 use Rattle.rules.specs.Foreign.{foreign}
 use Rattle.state.specs.View.{viewOf}
-use Rattle.runtime.specs.Builds.{nothing}
+use Rattle.building.specs.LaidOut.{nothing}
 
 pub nothing-foreign : foreign (viewOf nothing) ≡ true
 unfolding foreign anyOf any

@@ -15,12 +15,12 @@ use Rattle.state.specs.View.{countersOf}
 use Rattle.building.specs.declared.BuildAnswer.{BuildAnswer}
 use Rattle.building.specs.declared.BuildAnswer.the-variants as P
 use Rattle.building.specs.Answered.{answerOf, Judges}
-use Rattle.building.specs.LaidOut.{LaysOut, noHead}
+use Rattle.building.specs.LaidOut.{LaysOut, noHead, nothing}
 use Rattle.building.proofs.BuildAnswer.{the-type}
 use Rattle.building.proofs.Verdicts.{never, counters-accepted, counters-refused}
 use Rattle.building.proofs.Judging.{refusals, refusing}
 use Rattle.building.proofs.Laying.{writable}
-use Rattle.runtime.specs.Builds.{nothing, Makes, Builds}
+use Rattle.runtime.specs.Builds.{Makes, Builds}
 
 -- A head and edges, the other words zeros.
 abbrev zeroed : List ℕ → Head → Runtime

@@ -4,17 +4,12 @@ use mathlib.Core.List.{List}
 use Prim.Native.Nat.{ℕ}
 use Rattle.rules.specs.Answers.{Refusal, Accepted, Refused}
 use Rattle.rules.specs.Build.{Setup, setup, built, build}
-use Rattle.words.specs.Words.{zeroes}
 use Rattle.state.specs.declared.Runtime.{Runtime}
 use Rattle.state.specs.declared.Counters.{Counters}
 use Rattle.state.specs.View.{viewOf, countersOf}
 use Rattle.building.specs.Answered.{answerOf}
-use Rattle.building.specs.LaidOut.{noHead}
+use Rattle.building.specs.LaidOut.{nothing}
 use Rattle.runtime.specs.declared.Built.{Built}
-
--- "nothing made": the state that stands for none. Every later call refuses it (proofs/Empty).
-abbrev pub nothing : Runtime
-nothing = record { edges = zeroes 2048; pending = zeroes 4096; horizons = zeroes 128; batch = zeroes 512; head = noHead }
 
 -- "Once built, ..", of every setup with these rows that build accepts.
 pub record Makes (n L : ℕ) (sources counts destinations : List ℕ) (r : Runtime) : Type 0 where

@@ -19,8 +19,9 @@ ghost use Rattle.rules.specs.Build.{setup};
 ghost use Rattle.rules.specs.Calls.{Call, AddInitial, Begin, Step, HandBack};
 ghost use Rattle.replies.specs.Emissions.{emissionsOf};
 ghost use Rattle.state.specs.View.{viewOf, messageOf};
+ghost use Rattle.building.specs.LaidOut.{nothing};
 ghost use Rattle.wiring.specs.Wired.{Writable};
-ghost use Rattle.runtime.specs.Builds.{nothing, Makes, Builds};
+ghost use Rattle.runtime.specs.Builds.{Makes, Builds};
 ghost use Rattle.runtime.specs.Carries.{Carries};
 
 // What build gives: its answer, the runtime made and the counters left.

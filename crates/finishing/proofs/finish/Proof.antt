@@ -3,7 +3,7 @@ use native.Mathlib.Omega.{arith}
 use Rattle.rules.proofs.Tests.{not-true, not-false}
 use Rattle.state.proofs.Facts.{few-pending}
 use Rattle.settling.proofs.Settling.{concludable}
-use Rattle.handing.proofs.Back.{findable}
+use Rattle.judging.proofs.InHand.{findable}
 use Rattle.finishing.proofs.Finishing.{finish-lost, finish-late, finish-full, finish-on}
 use Rattle.finishing.proofs.finish.Statement.{statement}
 use Rattle.finishing.proofs.finish.Tie as tie

@@ -1,7 +1,8 @@
 use borrow.Author.Needs.{needs}
 use mathlib.Core.Path.{_∙_}
 use Rattle.rules.proofs.Tests.{not-true, not-false}
-use Rattle.handing.proofs.Back.{findable, malformed-by, judgeable, settleable, back-dead, back-empty, back-malformed, back-lost, back-settled, verdict-of}
+use Rattle.judging.proofs.InHand.{findable}
+use Rattle.handing.proofs.Back.{malformed-by, judgeable, settleable, back-dead, back-empty, back-malformed, back-lost, back-settled, verdict-of}
 use Rattle.handing.proofs.hand_back.Statement.{statement}
 use Rattle.handing.proofs.hand_back.Tie as tie
 

@@ -1,5 +1,6 @@
 use borrow.Author.Needs.{needs}
-use Rattle.laying.proofs.Laying.{findable, lay-refused, lay-laid}
+use Rattle.judging.proofs.InHand.{findable}
+use Rattle.laying.proofs.Laying.{lay-refused, lay-laid}
 use Rattle.laying.proofs.lay.Statement.{statement}
 use Rattle.laying.proofs.lay.Tie as tie
 
@@ -9,7 +10,7 @@ slice-aggregate-find-places c = search needs
 find-places-requires : tie.Need-find-places-requires
 find-places-requires c κs =
     let start = c .before .before .before .before .before .before in
-    let f = findable (start .args .head) _ _ _ _ (start .args .mask) (start .pre .1) in
+    let f = findable (start .args .head) _ _ _ _ (start .pre .1) in
     (f .0, search needs, f .1)
 
 slice-aggregate-strange-mask : tie.Need-slice-aggregate-strange-mask
@@ -39,7 +40,7 @@ first-failed-requires c κs =
     let known = c .before .before .before .before .before in
     let found = known .before .before .before .before in
     let start = found .before .before .before .before .before .before .before in
-    findable (start .args .head) _ _ _ _ (start .args .mask) (start .pre .1)
+    findable (start .args .head) _ _ _ _ (start .pre .1)
 
 same-length : tie.Need-same-length
 same-length c = search needs
