@@ -9,7 +9,7 @@ use lib.Bits.{bitOr, or-step}
 use lib.Dec.{eqb}
 use borrow.Author.Tests.{ne-eqb}
 use Rattle.types.proofs.Halves.{same-eqb}
-use Rattle.edges.specs.Seen.{bit}
+use Rattle.edges.specs.Routes.{bit}
 
 -- The lowest bit, and those above it.
 low : (x : ℕ) → bit x 0 ≡ eqb (x % 2) 1

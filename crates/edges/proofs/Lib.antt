@@ -1,3 +1,4 @@
 pub mod Bits
 pub mod Tested
+pub mod Marks
 pub mod Pairs

@@ -1,16 +1,17 @@
-// What is asked of the edges of a state, in one pass over flat words, in any order of the edges.
+// What is asked of the edges of a state, in one pass over flat words, in any order of the edges. Who
+// asks often for routes has a table of 64 words found first: bit b of word a, for an edge from a to b.
 //
 // An edge is four words (specs/Records.antt of records). These are leaves: each asks that the words
 // it touches are there.
 ghost use mathlib.Core.Path.{_≡_};
 ghost use mathlib.Core.Bool.{false};
-ghost use Prim.Native.Nat.{_+_, _*_, _≤_};
+ghost use Prim.Native.Nat.{_+_, _*_, _≤_, _<_};
 ghost use lib.ListN.{length};
 ghost use Rattle.rules.specs.Base.{any};
 ghost use Rattle.rules.specs.Pending.{joins, route};
 ghost use Rattle.rules.specs.Foreign.{strangeEdge, badEdges};
 ghost use Rattle.records.specs.Records.{edgeAt, edgesOf};
-ghost use Rattle.edges.specs.Seen.{Met};
+ghost use Rattle.edges.specs.Routes.{Routes, Leads, Marked, Met};
 
 // Whether a route leads from a to b: to itself, or along an edge. Ids are whole words here.
 pub fn routed(edges: &[u64], count: usize, a: u64, b: u64) -> bool
@@ -83,16 +84,42 @@ fn meet(edges: &[u64], i: usize, seen: &mut [u64]) -> bool
     requires { ⌜ (4 * i + 4 ≤ length (now edges)) × (length (now seen) ≡ 64) × (strangeEdge 64 (edgeAt (now edges) i) ≡ false) ⌝ }
     ensures { λ r. ⌜ Met (edgeAt (now (edges .entry)) i) (now (seen .entry)) (now (seen .exit)) r ⌝ }
 {
+    if leads(seen, edges[4 * i], edges[4 * i + 1]) {
+        return true;
+    }
+    mark(edges, i, seen);
+    false
+}
+
+// Edge i is put into the table.
+fn mark(edges: &[u64], i: usize, routes: &mut [u64])
+    requires { ⌜ (4 * i + 4 ≤ length (now edges)) × (length (now routes) ≡ 64) × (strangeEdge 64 (edgeAt (now edges) i) ≡ false) ⌝ }
+    ensures { λ _. ⌜ Marked (edgeAt (now (edges .entry)) i) (now (routes .entry)) (now (routes .exit)) ⌝ }
+{
     let from = edges[4 * i];
     let to = edges[4 * i + 1];
-    if from == to {
-        return true;
-    }
     let at = from as usize;
-    let row = seen[at];
-    if (row >> to) % 2 == 1 {
-        return true;
+    let row = routes[at];
+    routes[at] = row | (1u64 << to);
+}
+
+// The table of all edges, found once: an edge may stand twice or lead to its own source.
+pub fn find_routes(edges: &[u64], count: usize, routes: &mut [u64])
+    requires { ⌜ (4 * count ≤ length (now edges)) × (length (now routes) ≡ 64) × (any (strangeEdge 64) (edgesOf count (now edges)) ≡ false) ⌝ }
+    ensures { λ _. ⌜ Routes (edgesOf count (now (edges .entry))) (now (routes .exit)) ⌝ }
+{
+    words::clear(routes, 0, 64);
+    let mut i = count;
+    while 0 < i {
+        i -= 1;
+        mark(edges, i, routes);
     }
-    seen[at] = row | (1u64 << to);
-    false
+}
+
+// Whether a route leads from a to b, by the table.
+pub fn leads(routes: &[u64], a: u64, b: u64) -> bool
+    requires { ⌜ (length (now routes) ≡ 64) × (a < 64) × (b < 64) ⌝ }
+    ensures { λ r. ⌜ Leads (now (routes .entry)) a b r ⌝ }
+{
+    a == b || (routes[a as usize] >> b) % 2 == 1
 }

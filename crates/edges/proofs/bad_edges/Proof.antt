@@ -1,7 +1,8 @@
 use mathlib.Core.Path.{_≡_, refl}
 use lib.ListN.{length}
 use borrow.Author.Needs.{needs}
-use Rattle.edges.proofs.Pairs.{Passing, passing-start, passing-more, passing-stop, passing-end, not-strange}
+use Rattle.edges.proofs.Marks.{not-strange}
+use Rattle.edges.proofs.Pairs.{Passing, passing-start, passing-more, passing-stop, passing-end}
 use Rattle.edges.proofs.bad_edges.Statement.{statement}
 use Rattle.edges.proofs.bad_edges.Tie as tie
 

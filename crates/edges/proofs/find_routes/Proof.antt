@@ -1,0 +1,51 @@
+use mathlib.Core.Path.{_≡_}
+use lib.ListN.{length}
+use borrow.Author.Needs.{needs}
+use Rattle.edges.proofs.Marks.{not-strange, Routing, routing-cleared, routing-more, routing-end}
+use Rattle.edges.proofs.find_routes.Statement.{statement}
+use Rattle.edges.proofs.find_routes.Tie as tie
+
+abbrev Inv-loop : tie.InvT-loop
+Inv-loop edges count routes₀ i₀ routes i = (length routes ≡ 64) × Routing edges count i routes
+
+abbrev μ-loop : tie.MeasureT-loop
+μ-loop edges count routes₀ i₀ routes i = i
+
+clear-requires : tie.Need-clear-requires Inv-loop μ-loop
+clear-requires c κs = search needs
+
+loop-holds : tie.Need-loop-holds Inv-loop μ-loop
+loop-holds c = search (routing-cleared, needs)
+
+sub-i : tie.Need-sub-i Inv-loop μ-loop
+sub-i c = search needs
+
+mark-requires : tie.Need-mark-requires Inv-loop μ-loop
+mark-requires c κs = search (not-strange, needs)
+
+loop-less : tie.Need-loop-less Inv-loop μ-loop
+loop-less c = search needs
+
+loop-again : tie.Need-loop-again Inv-loop μ-loop
+loop-again c = search (routing-more, needs)
+
+same-length : tie.Need-same-length Inv-loop μ-loop
+same-length c = search needs
+
+returns : tie.Need-returns Inv-loop μ-loop
+returns c = search (routing-end, needs)
+
+pub find-routes-spec : {M : Type 1} → statement M
+find-routes-spec =
+    tie.close
+    (tie.spec
+    Inv-loop
+    μ-loop
+    clear-requires
+    loop-holds
+    sub-i
+    mark-requires
+    loop-less
+    loop-again
+    same-length
+    returns)

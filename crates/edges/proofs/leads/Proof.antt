@@ -1,0 +1,22 @@
+use borrow.Author.Needs.{needs}
+use Rattle.edges.proofs.Marks.{leads-self, leads-along}
+use Rattle.edges.proofs.leads.Statement.{statement}
+use Rattle.edges.proofs.leads.Tie as tie
+
+mul-result : tie.Need-mul-result
+mul-result c = search needs
+
+shared-slice-read-result : tie.Need-shared-slice-read-result
+shared-slice-read-result c = search needs
+
+shr-result : tie.Need-shr-result
+shr-result c = search needs
+
+returns : tie.Need-returns
+returns c = search (leads-self, needs)
+
+returns-2 : tie.Need-returns-2
+returns-2 c = search (leads-along, needs)
+
+pub leads-spec : {M : Type 1} → statement M
+leads-spec = tie.close (tie.spec mul-result shared-slice-read-result shr-result returns returns-2)
