@@ -27,15 +27,15 @@ use Rattle.state.specs.declared.Answer.{Answer}
 use Rattle.state.specs.declared.Answer.the-variants as P
 use Rattle.state.specs.View.{viewOf}
 use Rattle.state.specs.Lent.{Lent}
-use Rattle.state.proofs.Facts.{few-processes, few-edges, few-pending, few-batch, in-order, newest}
+use Rattle.state.proofs.Facts.{few-processes, few-pending, few-batch, in-order, newest}
 use Rattle.sifting.specs.declared.Sifted.{Sifted}
 use Rattle.sifting.specs.declared.Desk.{Desk}
-use Rattle.sifting.specs.Desks.{edgesIn, horizonsIn, batchIn, placesIn}
+use Rattle.sifting.specs.Desks.{routesIn, horizonsIn, batchIn, placesIn}
 use Rattle.sifting.specs.Sifts.{Seated}
 use Rattle.sifting.specs.Taken.{replyOf, inHand, Begun, Taken}
 use Rattle.sifting.proofs.Taking.{was-going}
 use Rattle.laying.specs.Lays.{Sizes, desk, refusing, Laid, Lays}
-use Rattle.laying.proofs.Filling.{edges-there, horizons-there, batch-there, pending-there}
+use Rattle.laying.proofs.Filling.{horizons-there, batch-there, pending-there}
 use Rattle.handing.specs.Hands.{HandsBack}
 use Rattle.handing.proofs.Back.{back-dead, back-empty, back-malformed}
 use Rattle.finishing.specs.Finishes.{Heard, Finishes}
@@ -78,7 +78,7 @@ module _ (s : Runtime) (mask : ℕ) where
         strange : strangeMask (eventsOf (s .head .batch) (s .batch)) mask ≡ true → (xs : List R.Emission) (c : Counters) → Carries (HandBack mask xs) s c P.MalformedReply s c
         strange t xs c = unmoved-back s c mask xs P.MalformedReply (back-malformed (s .head) c (s .edges) (s .pending) (s .horizons) (s .batch) mask xs l p n (malformed-in-turn _ mask xs ∙ rw t))
 
-        pub open-laid : (a : Sifted) (W : List ℕ) → length W ≡ 6848 → Lays (s .head) (s .edges) (s .pending) (s .horizons) (s .batch) mask a W → Opens s mask (record { words = W; sifted = a })
+        pub open-laid : (a : Sifted) (W : List ℕ) → length W ≡ 4864 → Lays (s .head) (s .edges) (s .pending) (s .horizons) (s .batch) mask a W → Opens s mask (record { words = W; sifted = a })
         open-laid a W w h = record {
           long = w;
           shut = λ g. h .refused g .0 ∙ ap (refusing (s .head) mask) (sym (ap (λ (x : Sifted). x .verdict .answer) (h .refused g .0)));
@@ -96,14 +96,11 @@ module _ (s : Runtime) (mask : ℕ) (d : Desk) (o : Opens s mask d) where
     h : d .sifted .head ≡ s .head
     h = ap (λ (x : Sifted). x .head) (o .laid g .sifted)
 
-    sizes : Sizes (s .pending) (s .edges) (s .horizons) (s .batch) (placesIn (d .words))
-    sizes = record { pending-words = l .pending-words; edge-words = l .edge-words; horizon-words = l .horizon-words; batch-words = l .batch-words; place-words = o .laid g .place-words }
+    sizes : Sizes (s .pending) (routesIn (d .words)) (s .horizons) (s .batch) (placesIn (d .words))
+    sizes = record { pending-words = l .pending-words; route-words = o .laid g .route-words; horizon-words = l .horizon-words; batch-words = l .batch-words; place-words = o .laid g .place-words }
 
     batch-is : batchIn (d .words) ≡ s .batch
     batch-is = ap batchIn (o .laid g .words-are) ∙ batch-there _ _ _ _ _ sizes
-
-    edges-are : edgesIn (d .words) ≡ s .edges
-    edges-are = ap edgesIn (o .laid g .words-are) ∙ edges-there _ _ _ _ _ sizes
 
     horizons-are : horizonsIn (d .words) ≡ s .horizons
     horizons-are = ap horizonsIn (o .laid g .words-are) ∙ horizons-there _ _ _ _ _ sizes
@@ -120,7 +117,6 @@ module _ (s : Runtime) (mask : ℕ) (d : Desk) (o : Opens s mask d) where
     seated : Seated (d .words) (d .sifted .head)
     seated = rw h (record {
       few = few-processes (s .head) (s .edges) (s .pending) (s .horizons) (s .batch) (l .passes);
-      few-edges = few-edges (s .head) (s .edges) (s .pending) (s .horizons) (s .batch) (l .passes);
       few-pending = few;
       few-batch = few-batch (s .head) (s .edges) (s .pending) (s .horizons) (s .batch) (l .passes);
       places = rw batch-is (o .laid g .placed);
@@ -188,7 +184,7 @@ module _ (s : Runtime) (mask : ℕ) (d : Desk) (o : Opens s mask d) where
           healthy = o .opened e .healthy;
           formed = not-true _ (sym (formed e) ∙ n);
           failed-is = failed-same ∙ ap (λ (x : Sifted). x .failed) (o .laid e .sifted);
-          judged = rw failed-same (rw (h e, batch-is e, edges-are e, horizons-are e) at (k .judged n (s .pending) (s .batch)));
+          judged = rw failed-same (rw (h e, batch-is e, horizons-are e) at (k .judged n (s .edges) (s .pending) (s .batch) (rw (h e) (o .laid e .routed))));
           remote = k .remote n;
           queued = λ sound whole places numbers.
               rw (h e) at (k .queued (record { opened = n; sound = sound; whole = whole; places = rw (k .same-head, h e) places; numbers = rw (k .same-head, h e) numbers })) ∙ rw (pending-is e);

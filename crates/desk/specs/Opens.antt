@@ -13,7 +13,7 @@ use Rattle.state.specs.declared.Counters.{Counters}
 use Rattle.state.specs.declared.Answer.{Answer}
 use Rattle.state.specs.Lent.{Lent}
 use Rattle.sifting.specs.declared.Desk.{Desk}
-use Rattle.sifting.specs.Desks.{placesIn}
+use Rattle.sifting.specs.Desks.{routesIn, placesIn}
 use Rattle.sifting.specs.Taken.{replyOf, Taken}
 use Rattle.laying.specs.Lays.{refusing, Laid}
 use Rattle.runtime.specs.declared.Called.{Called}
@@ -21,7 +21,7 @@ use Rattle.runtime.specs.Carries.{Carries}
 
 -- A desk on which nothing is looked at.
 pub record Shut (h : Head) (mask : ℕ) (a : Answer) (d : Desk) : Type 0 where
-  pub long : length (d .words) ≡ 6848
+  pub long : length (d .words) ≡ 4864
   pub sifted : d .sifted ≡ refusing h mask a
 
 -- The state that a reply is taken for: 11, 12 and 25 let it pass.
@@ -32,11 +32,11 @@ pub record Open (s : Runtime) : Type 0 where
 
 -- The desk d is open for a reply with this mask to the runtime s. Where it does not go on, hand back is refused so whatever is emitted, with state and counters as given.
 pub record Opens (s : Runtime) (mask : ℕ) (d : Desk) : Type 0 where
-  pub long : length (d .words) ≡ 6848
+  pub long : length (d .words) ≡ 4864
   pub shut : d .sifted .going ≡ false → d .sifted ≡ refusing (s .head) mask (d .sifted .verdict .answer)
   pub refused : d .sifted .going ≡ false → (xs : List R.Emission) (c : Counters) → Carries (HandBack mask xs) s c (d .sifted .verdict .answer) s c
   pub opened : d .sifted .going ≡ true → Open s
-  pub laid : d .sifted .going ≡ true → Laid (s .head) (s .edges) (s .pending) (s .horizons) (s .batch) mask (placesIn (d .words)) (d .words) (d .sifted)
+  pub laid : d .sifted .going ≡ true → Laid (s .head) (s .edges) (s .pending) (s .horizons) (s .batch) mask (routesIn (d .words)) (placesIn (d .words)) (d .words) (d .sifted)
 
 -- What closing asks.
 unfoldable pub Closable : Runtime → Desk → Type 0

@@ -15,7 +15,7 @@ fn shut(head: Head, mask: u64, answer: Answer) -> Desk
     ensures { λ r. ⌜ Shut head mask answer r ⌝ }
 {
     Desk {
-        words: [0; 6848],
+        words: [0; 4864],
         sifted: laying::refuse(head, mask, answer),
     }
 }
@@ -36,7 +36,7 @@ fn open_passed(state: Runtime, mask: u64) -> Desk
     let pending = state.pending;
     let horizons = state.horizons;
     let batch = state.batch;
-    let mut words = [0u64; 6848];
+    let mut words = [0u64; 4864];
     let sifted = laying::lay(head, &edges, &pending, &horizons, &batch, mask, &mut words);
     Desk {
         words: words,

@@ -66,14 +66,14 @@ module _ (a : Sifted) where
     }
 
 -- The pending words come from the desk.
-taken-over : (Q D u : List ℕ) → length Q ≡ 4096 → length u ≡ length Q → length D ≡ 6848 → Copied 0 (take 4096 D) Q u → u ≡ take 4096 D
+taken-over : (Q D u : List ℕ) → length Q ≡ 4096 → length u ≡ length Q → length D ≡ 4864 → Copied 0 (take 4096 D) Q u → u ≡ take 4096 D
 unfolding Copied
 taken-over Q D u l s d c =
     let n : length (take 4096 D) ≡ 4096 = length-take-le 4096 D (omega arith) in
     let e : take 4096 u ≡ take 4096 D = rw n at c in
     sym (take-all 4096 u (omega arith)) ∙ e
 
-pub take-queued : (h : Head) (Q D u : List ℕ) (k w : ℕ) → length Q ≡ 4096 → length u ≡ length Q → length D ≡ 6848 → Copied 0 (take 4096 D) Q u → w ≡ raise (h .used) (h .batch) → TakesQueued h D k (handledHead h k w) u
+pub take-queued : (h : Head) (Q D u : List ℕ) (k w : ℕ) → length Q ≡ 4096 → length u ≡ length Q → length D ≡ 4864 → Copied 0 (take 4096 D) Q u → w ≡ raise (h .used) (h .batch) → TakesQueued h D k (handledHead h k w) u
 take-queued h Q D u k w l s d c e = record { head = ap (handledHead h k) e; words = taken-over Q D u l s d c }
 
 -- Events on the desk, by its first words.

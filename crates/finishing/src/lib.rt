@@ -43,7 +43,7 @@ fn take_queued(
     words: &[u64],
     emitted: usize,
 ) -> Head
-    requires { ⌜ (length (now pending) ≡ 4096) × (length (now words) ≡ 6848) × (8 * head .batch ≤ length (now batch)) × (head .pending + emitted ≤ 512) × (head .next + emitted ≤ 18446744073709551615) ⌝ }
+    requires { ⌜ (length (now pending) ≡ 4096) × (length (now words) ≡ 4864) × (8 * head .batch ≤ length (now batch)) × (head .pending + emitted ≤ 512) × (head .next + emitted ≤ 18446744073709551615) ⌝ }
     ensures { λ r. ⌜ TakesQueued head (now (words .entry)) emitted r (now (pending .exit)) ⌝ }
 {
     laying::copy_at(pending, 0, &words[0..4096]);
@@ -67,7 +67,7 @@ pub fn finish<'a>(
     a: Sifted,
     emitted: usize,
 ) -> After
-    requires { ⌜ Lent head (now edges) (now pending) (now horizons) (now batch) × (0 < head .batch) × (length (now words) ≡ 6848) ⌝ }
+    requires { ⌜ Lent head (now edges) (now pending) (now horizons) (now batch) × (0 < head .batch) × (length (now words) ≡ 4864) ⌝ }
     ensures { λ r. ⌜ Finishes head counters (now (edges .entry)) (now (pending .entry)) (now (horizons .entry)) (now (batch .entry)) (now (words .entry)) a emitted r (now (pending .exit)) (now (horizons .exit)) (now (batch .exit)) ⌝ }
 {
     let verdict = last_word(a);

@@ -6,7 +6,7 @@ use Prim.Native.Nat.{ℕ, _*_, _/_, _≤_, _<_}
 use native.Mathlib.Omega.{arith}
 use lib.ListN.{length}
 use Rattle.words.specs.Words.{tab}
-use Rattle.records.specs.Records.{eventAt, eventsOf}
+use Rattle.records.specs.Records.{eventAt, edgesOf, eventsOf}
 use Rattle.rules.specs.Base.{if_then_else_, nonEmpty}
 use Rattle.rules.specs.State as R
 use Rattle.rules.specs.State.{Event, State, poison}
@@ -16,6 +16,7 @@ use Rattle.rules.specs.Foreign.{foreign}
 use Rattle.rules.specs.HandBack.{Emission, malformed, processRows, backRows, lose, commitAt, handBack}
 use Rattle.rules.proofs.Tests.{not-both}
 use Rattle.rules.proofs.Table.{unless-append}
+use Rattle.edges.specs.Routes.{Routes}
 use Rattle.replies.specs.Emissions.{emissionsOf}
 use Rattle.replies.specs.Replies.{Owners, Places, Malformed}
 use Rattle.judging.specs.declared.Verdict.{Verdict}
@@ -29,7 +30,7 @@ use Rattle.state.specs.declared.Answer.the-variants as P
 use Rattle.state.specs.View.{view, countersOf, answerOf}
 use Rattle.state.specs.Kept.{unmoved}
 use Rattle.state.specs.Lent.{Lent}
-use Rattle.state.proofs.Facts.{some-events, no-events, few-processes, few-edges, batch-order}
+use Rattle.state.proofs.Facts.{some-events, no-events, few-processes, batch-order}
 use Rattle.state.proofs.Moves.{committed-moves, lost-moves}
 use Rattle.concluding.specs.Concludes.{Loses}
 use Rattle.settling.specs.Settles.{lastRows, settled, Settleable, Settles}
@@ -74,9 +75,9 @@ malformed-by q mask T xs t p m = sym (m q p)
 
 -- What 27 to 33 and what follows ask of the reply's words.
 module _ (h : Head) (E Q Z B : List ℕ) (mask : ℕ) (w : List ℕ) (l : Lent h E Q Z B) where
-  pub judgeable : malformed (eventsOf (h .batch) B) mask (emissionsOf (length w / 8) w) ≡ false → Judgeable h E Z × Replied (h .batch) B mask (length w / 8) w
-  judgeable e = (
-    record { few = few-processes h E Q Z B (l .passes); edge-words = omega (arith, few-edges h E Q Z B (l .passes), l .edge-words); horizon-words = l .horizon-words },
+  pub judgeable : (R : List ℕ) → length R ≡ 64 → malformed (eventsOf (h .batch) B) mask (emissionsOf (length w / 8) w) ≡ false → Judgeable h R Z × Replied (h .batch) B mask (length w / 8) w
+  judgeable R n e = (
+    record { few = few-processes h E Q Z B (l .passes); route-words = n; horizon-words = l .horizon-words },
     record { batch-words = findable h E Q Z B l .0; reply-words = whole w; owners = findable h E Q Z B l .1; order = batch-order h E Q Z B (l .passes); formed = e },
   )
 
@@ -134,6 +135,6 @@ module _ (h : Head) (c : Counters) (E Q Z B : List ℕ) (mask : ℕ) (xs : List 
         }
 
 -- The verdict of a reply in words.
-pub verdict-of : (h : Head) (E Q Z B : List ℕ) (mask k : ℕ) (w : List ℕ) (v : Verdict) → JudgesReply h E Z B mask k w v → Judges (processRows (view h E Q Z B) mask (emissionsOf k w) (eventsOf (h .batch) B)) v
+pub verdict-of : (h : Head) (E Q Z B : List ℕ) (mask k : ℕ) (w R : List ℕ) → Routes (edgesOf (h .edges) E) R → (v : Verdict) → JudgesReply h R Z B mask k w v → Judges (processRows (view h E Q Z B) mask (emissionsOf k w) (eventsOf (h .batch) B)) v
 unfolding JudgesReply
-verdict-of h E Q Z B mask k w v j = j Q
+verdict-of h E Q Z B mask k w R r v j = j E Q r

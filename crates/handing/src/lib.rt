@@ -48,7 +48,9 @@ pub fn hand_back<'a>(
             counters: counters,
         };
     }
-    let verdict = reviewing::judge_reply(head, edges, horizons, batch, mask, reply, emitted);
+    let mut routes = [0u64; 64];
+    edges::find_routes(edges, head.edges, &mut routes);
+    let verdict = reviewing::judge_reply(head, &routes, horizons, batch, mask, reply, emitted);
     if !verdict.sound {
         let answer = verdict.answer;
         return concluding::lose(answer, head, counters, batch);

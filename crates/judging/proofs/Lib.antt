@@ -1,3 +1,4 @@
 pub mod Verdicts
 pub mod Rows
 pub mod InHand
+pub mod Wired

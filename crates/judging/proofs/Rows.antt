@@ -19,6 +19,7 @@ use Rattle.rules.specs.Answers as A
 use Rattle.rules.specs.Pending.{route}
 use Rattle.rules.specs.HandBack.{minimum}
 use Rattle.records.specs.Records.{edgesOf}
+use Rattle.edges.specs.Routes.{Routes, Leads}
 use Rattle.replies.specs.declared.Emission.{Emission}
 use Rattle.replies.specs.Emissions.{emissionOf}
 use Rattle.state.specs.declared.Head.{Head}
@@ -83,40 +84,42 @@ unfolding halves
 positive = halves-fit 0 0 (record { upper = omega arith; lower = omega arith })
 
 -- 28 to 33, each row with those before it passed.
-module _ (h : Head) (E Z : List ℕ) (e : Emission) (time : SimTime) where
-  pub mismatch : (e .src ≡ e .emitter → ⊥) → JudgesOne h E Z e time (refusing (P.OutboundSourceMismatch (e .emitter) (e .src)))
+module _ (h : Head) (R Z : List ℕ) (e : Emission) (time : SimTime) where
+  pub mismatch : (e .src ≡ e .emitter → ⊥) → JudgesOne h R Z e time (refusing (P.OutboundSourceMismatch (e .emitter) (e .src)))
   unfolding JudgesOne rowsOf
-  mismatch n Q B = struck _ _ _ (ap not (ne-eqb (e .src) (e .emitter) n)) (λ es. refl)
+  mismatch n E Q B w = struck _ _ _ (ap not (ne-eqb (e .src) (e .emitter) n)) (λ es. refl)
 
   module _ (a : e .src ≡ e .emitter) where
     own : not (eqb (e .src) (e .emitter)) ≡ false
     own = ap not (eq-eqb (e .src) (e .emitter) a)
 
-    pub unknown : h .n ≤ e .dst → JudgesOne h E Z e time (refusing (P.UnknownOutboundDestination (e .dst)))
+    pub unknown : h .n ≤ e .dst → JudgesOne h R Z e time (refusing (P.UnknownOutboundDestination (e .dst)))
     unfolding JudgesOne rowsOf
-    unknown l Q B = go-by _ _ _ own (struck _ _ _ (le-leb (h .n) (e .dst) l) (λ es. refl))
+    unknown l E Q B w = go-by _ _ _ own (struck _ _ _ (le-leb (h .n) (e .dst) l) (λ es. refl))
 
-    module _ (l : e .dst < h .n) (t : Bool) (et : t ≡ route (edgesOf (h .edges) E) (e .emitter) (e .dst)) where
+    module _ (l : e .dst < h .n) (t : Bool) (et : Leads R (e .emitter) (e .dst) t) where
       known : leb (h .n) (e .dst) ≡ false
       known = lt-leb (h .n) (e .dst) l
 
-      pub unrouted : t ≡ false → JudgesOne h E Z e time (refusing (P.OutboundRouteMissing (e .emitter) (e .dst)))
+      -- 30 of any edges that the routes are of.
+      missing : (E : List ℕ) → Routes (edgesOf (h .edges) E) R → not (route (edgesOf (h .edges) E) (e .emitter) (e .dst)) ≡ not t
+      unfolding Leads
+      missing E w = ap not (sym (et _ w))
+
+      pub unrouted : t ≡ false → JudgesOne h R Z e time (refusing (P.OutboundRouteMissing (e .emitter) (e .dst)))
       unfolding JudgesOne rowsOf
-      unrouted u Q B = go-by _ _ _ own (go-by _ _ _ known (struck _ _ _ (ap not (sym et ∙ u)) (λ es. refl)))
+      unrouted u E Q B w = go-by _ _ _ own (go-by _ _ _ known (struck _ _ _ (missing E w ∙ ap not u) (λ es. refl)))
 
       module _ (u : t ≡ true) (m : Added) (s : Adds (least e time (h .lookahead)) m) where
-        routed : not (route (edgesOf (h .edges) E) (e .emitter) (e .dst)) ≡ false
-        routed = ap not (sym et ∙ u)
-
-        pub overflow : m ≡ Overflow → JudgesOne h E Z e time (refusing (P.LookaheadOverflow (e .emitter) time (h .lookahead)))
+        pub overflow : m ≡ Overflow → JudgesOne h R Z e time (refusing (P.LookaheadOverflow (e .emitter) time (h .lookahead)))
         unfolding JudgesOne rowsOf
-        overflow o Q B =
+        overflow o E Q B w =
             let k : 2 ^ 128 ≤ least e time (h .lookahead) = rw o at s in
-            go-by _ _ _ own (go-by _ _ _ known (go-by _ _ _ routed (struck _ _ _ (over (2 ^ 128) _ positive k) (λ es. refl))))
+            go-by _ _ _ own (go-by _ _ _ known (go-by _ _ _ (missing E w ∙ ap not u) (struck _ _ _ (over (2 ^ 128) _ positive k) (λ es. refl))))
 
-        pub timed : (t : SimTime) → m ≡ Sum t → (v : Verdict) → Judges (tickRows (emissionOf e) (value time) (value t) (tickAt Z (2 * e .dst))) v → JudgesOne h E Z e time v
+        pub timed : (t : SimTime) → m ≡ Sum t → (v : Verdict) → Judges (tickRows (emissionOf e) (value time) (value t) (tickAt Z (2 * e .dst))) v → JudgesOne h R Z e time v
         unfolding JudgesOne rowsOf tickRows
-        timed t o v j Q B =
+        timed t o v j E Q B w =
             let k : (least e time (h .lookahead) < 2 ^ 128) × (value t ≡ least e time (h .lookahead)) = rw o at s in
             let z : getD (horizonsOf (h .n) Z) (e .dst) 0 ≡ tickAt Z (2 * e .dst) = local-at Z (h .n) (e .dst) l in
-            go-by _ _ _ own (go-by _ _ _ known (go-by _ _ _ routed (go-by _ _ _ (fits (2 ^ 128) _ (k .0)) (rw (z, ← k .1) j))))
+            go-by _ _ _ own (go-by _ _ _ known (go-by _ _ _ (missing E w ∙ ap not u) (go-by _ _ _ (fits (2 ^ 128) _ (k .0)) (rw (z, ← k .1) j))))

@@ -2,7 +2,7 @@
 use mathlib.Core.Path.{_≡_}
 use mathlib.Core.Bool.{true, false}
 use mathlib.Core.List.{List, [], _∷_, _++_}
-use Prim.Native.Nat.{ℕ, _*_, _≤_}
+use Prim.Native.Nat.{ℕ, _≤_}
 use lib.Dec.{ltb}
 use lib.ListN.{length}
 use Rattle.types.specs.declared.SimTime.{SimTime}
@@ -13,6 +13,8 @@ use Rattle.rules.specs.Answers.{Refusal}
 use Rattle.rules.specs.Rows.{Row, _⇒_, unless, Out, out}
 use Rattle.rules.specs.Pending.{route}
 use Rattle.rules.specs.HandBack.{Emission, messageRows, stragglerRow, lose}
+use Rattle.records.specs.Records.{edgesOf}
+use Rattle.edges.specs.Routes.{Routes}
 use Rattle.replies.specs.declared.Emission as W
 use Rattle.replies.specs.Emissions.{emissionOf}
 use Rattle.state.specs.declared.Head.{Head}
@@ -35,12 +37,12 @@ tickRows x t least local =
 unfoldable pub rowsOf : State → ℕ → Emission → List Row
 rowsOf s t x = messageRows (s .n) (route (s .edges)) (s .lookahead) (x .emitter) t (x .message) ++ (stragglerRow s (x .message) ∷ [])
 
--- What 28 to 33 ask: the words of the edges and of the local horizons are there.
-pub record Judgeable (h : Head) (edges horizons : List ℕ) : Type 0 where
+-- What 28 to 33 ask: the words of the routes and of the local horizons are there.
+pub record Judgeable (h : Head) (routes horizons : List ℕ) : Type 0 where
   pub few : h .n ≤ 64
-  pub edge-words : 4 * h .edges ≤ length edges
+  pub route-words : length routes ≡ 64
   pub horizon-words : length horizons ≡ 128
 
--- Whatever the pending words and those in hand are: 28 to 33 read neither.
+-- For any edges that the routes are of, whatever the pending words and those in hand are: 28 to 33 read neither.
 unfoldable pub JudgesOne : Head → List ℕ → List ℕ → W.Emission → SimTime → Verdict → Type 0
-JudgesOne h E Z e time r = (P B : List ℕ) → Judges (rowsOf (view h E P Z B) (value time) (emissionOf e)) r
+JudgesOne h R Z e time r = (E P B : List ℕ) → Routes (edgesOf (h .edges) E) R → Judges (rowsOf (view h E P Z B) (value time) (emissionOf e)) r

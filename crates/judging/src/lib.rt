@@ -55,16 +55,17 @@ fn judge_tick(horizons: &[u64], e: Emission, time: SimTime, least: SimTime) -> V
     }
 }
 
-// 28 to 33 of one emission of the process e.emitter, whose event has the tick `time`.
+// 28 to 33 of one emission of the process e.emitter, whose event has the tick `time`; `routes` is the
+// table that `edges` finds.
 pub fn judge<'a>(
     head: Head,
-    edges: &'a [u64],
+    routes: &'a [u64],
     horizons: &'a [u64],
     e: Emission,
     time: SimTime,
 ) -> Verdict
-    requires { ⌜ Judgeable head (now edges) (now horizons) ⌝ }
-    ensures { λ r. ⌜ JudgesOne head (now (edges .entry)) (now (horizons .entry)) e time r ⌝ }
+    requires { ⌜ Judgeable head (now routes) (now horizons) × (e .emitter < 64) ⌝ }
+    ensures { λ r. ⌜ JudgesOne head (now (routes .entry)) (now (horizons .entry)) e time r ⌝ }
 {
     if e.src != e.emitter {
         return Verdict {
@@ -79,8 +80,7 @@ pub fn judge<'a>(
             answer: Answer::UnknownOutboundDestination(e.dst),
         };
     }
-    let count = head.edges;
-    if !edges::routed(edges, count, e.emitter, e.dst) {
+    if !edges::leads(routes, e.emitter, e.dst) {
         return Verdict {
             sound: false,
             answer: Answer::OutboundRouteMissing(e.emitter, e.dst),

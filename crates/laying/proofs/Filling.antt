@@ -7,7 +7,7 @@ use native.Mathlib.Nat.{add-zero}
 use native.Mathlib.Numerals.{add-one}
 use lib.ListN.{length, getD, set, take, drop, length-set, length-append}
 use lib.Seq.{take-all, take-suc, take-suc-set, take-at, drop-append-seam}
-use Rattle.sifting.specs.Desks.{edgesIn, horizonsIn, batchIn, placesIn}
+use Rattle.sifting.specs.Desks.{routesIn, horizonsIn, batchIn, placesIn}
 use Rattle.laying.specs.Lays.{Copied, Sizes, desk}
 
 -- The first i words are copied.
@@ -41,14 +41,14 @@ behind : (n m : ℕ) (X from w u : List ℕ) → n + length from ≡ m → take 
 unfolding Copied
 behind n m X from w u e h c = rw (← e) (c ∙ ap (λ (x : List ℕ). x ++ from) h)
 
-module _ (P E Z B T : List ℕ) (s : Sizes P E Z B T) where
-  pub filled : (w u v x y z : List ℕ) → length z ≡ 6848 → Copied 0 P w u → Copied 4096 E u v → Copied 6144 Z v x → Copied 6272 B x y → Copied 6784 T y z → z ≡ desk P E Z B T
+module _ (P R Z B T : List ℕ) (s : Sizes P R Z B T) where
+  pub filled : (w u v x y z : List ℕ) → length z ≡ 4864 → Copied 0 P w u → Copied 4096 R u v → Copied 4160 Z v x → Copied 4288 B x y → Copied 4800 T y z → z ≡ desk P R Z B T
   filled w u v x y z l a b c d e =
-      sym (take-all 6848 z (omega arith))
-      ∙ behind 6784 6848 _ T y z (omega (arith, s .place-words))
-      (behind 6272 6784 _ B x y (omega (arith, s .batch-words))
-      (behind 6144 6272 _ Z v x (omega (arith, s .horizon-words))
-      (behind 4096 6144 _ E u v (omega (arith, s .edge-words)) (behind 0 4096 [] P w u (omega (arith, s .pending-words)) refl a) b) c) d) e
+      sym (take-all 4864 z (omega arith))
+      ∙ behind 4800 4864 _ T y z (omega (arith, s .place-words))
+      (behind 4288 4800 _ B x y (omega (arith, s .batch-words))
+      (behind 4160 4288 _ Z v x (omega (arith, s .horizon-words))
+      (behind 4096 4160 _ R u v (omega (arith, s .route-words)) (behind 0 4096 [] P w u (omega (arith, s .pending-words)) refl a) b) c) d) e
 
 -- A part in the middle.
 middle : (A X R : List ℕ) (k n : ℕ) → length A ≡ k → length X ≡ n → take n (drop k ((A ++ X) ++ R)) ≡ X
@@ -57,39 +57,39 @@ middle A X R k n a x = rw (← a) (ap (take n) (ap (drop (length A)) (append-ass
 last : (A X : List ℕ) (k n : ℕ) → length A ≡ k → length X ≡ n → take n (drop k (A ++ X)) ≡ X
 last A X k n a x = rw (← a) (ap (take n) (drop-append-seam A X) ∙ take-all n X (omega arith))
 
-module _ (P E Z B T : List ℕ) (s : Sizes P E Z B T) where
+module _ (P R Z B T : List ℕ) (s : Sizes P R Z B T) where
   abbrev two : List ℕ
-  two = P ++ E
+  two = P ++ R
 
   abbrev three : List ℕ
-  three = (P ++ E) ++ Z
+  three = (P ++ R) ++ Z
 
   abbrev four : List ℕ
-  four = ((P ++ E) ++ Z) ++ B
+  four = ((P ++ R) ++ Z) ++ B
 
-  long-two : length two ≡ 6144
-  long-two = omega (arith, length-append P E, s .pending-words, s .edge-words)
+  long-two : length two ≡ 4160
+  long-two = omega (arith, length-append P R, s .pending-words, s .route-words)
 
-  long-three : length three ≡ 6272
+  long-three : length three ≡ 4288
   long-three = omega (arith, length-append two Z, long-two, s .horizon-words)
 
-  long-four : length four ≡ 6784
+  long-four : length four ≡ 4800
   long-four = omega (arith, length-append three B, long-three, s .batch-words)
 
-  pub long : length (desk P E Z B T) ≡ 6848
+  pub long : length (desk P R Z B T) ≡ 4864
   long = omega (arith, length-append four T, long-four, s .place-words)
 
-  pub places-there : placesIn (desk P E Z B T) ≡ T
-  places-there = last four T 6784 64 long-four (s .place-words)
+  pub places-there : placesIn (desk P R Z B T) ≡ T
+  places-there = last four T 4800 64 long-four (s .place-words)
 
-  pub batch-there : batchIn (desk P E Z B T) ≡ B
-  batch-there = middle three B T 6272 512 long-three (s .batch-words)
+  pub batch-there : batchIn (desk P R Z B T) ≡ B
+  batch-there = middle three B T 4288 512 long-three (s .batch-words)
 
-  pub horizons-there : horizonsIn (desk P E Z B T) ≡ Z
-  horizons-there = ap (λ (l : List ℕ). take 128 (drop 6144 l)) (append-assoc three B T) ∙ middle two Z (B ++ T) 6144 128 long-two (s .horizon-words)
+  pub horizons-there : horizonsIn (desk P R Z B T) ≡ Z
+  horizons-there = ap (λ (l : List ℕ). take 128 (drop 4160 l)) (append-assoc three B T) ∙ middle two Z (B ++ T) 4160 128 long-two (s .horizon-words)
 
-  pub edges-there : edgesIn (desk P E Z B T) ≡ E
-  edges-there = ap (λ (l : List ℕ). take 2048 (drop 4096 l)) (append-assoc three B T ∙ append-assoc two Z (B ++ T)) ∙ middle P E (Z ++ (B ++ T)) 4096 2048 (s .pending-words) (s .edge-words)
+  pub routes-there : routesIn (desk P R Z B T) ≡ R
+  routes-there = ap (λ (l : List ℕ). take 64 (drop 4096 l)) (append-assoc three B T ∙ append-assoc two Z (B ++ T)) ∙ middle P R (Z ++ (B ++ T)) 4096 64 (s .pending-words) (s .route-words)
 
-  pub pending-there : take 4096 (desk P E Z B T) ≡ P
-  pending-there = ap (take 4096) (append-assoc three B T ∙ append-assoc two Z (B ++ T) ∙ append-assoc P E (Z ++ (B ++ T))) ∙ take-at P (E ++ (Z ++ (B ++ T))) 4096 (s .pending-words)
+  pub pending-there : take 4096 (desk P R Z B T) ≡ P
+  pending-there = ap (take 4096) (append-assoc three B T ∙ append-assoc two Z (B ++ T) ∙ append-assoc P R (Z ++ (B ++ T))) ∙ take-at P (R ++ (Z ++ (B ++ T))) 4096 (s .pending-words)

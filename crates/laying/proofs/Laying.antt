@@ -11,16 +11,17 @@ use Rattle.rules.specs.Base.{if_then_else_}
 use Rattle.rules.specs.State.{Event}
 use Rattle.rules.specs.HandBack.{failed}
 use Rattle.rules.proofs.Tests.{not-both}
-use Rattle.records.specs.Records.{eventAt, eventsOf}
+use Rattle.records.specs.Records.{eventAt, edgesOf, eventsOf}
 use Rattle.records.proofs.Stored.{event-to}
+use Rattle.edges.specs.Routes.{Routes}
 use Rattle.replies.specs.Replies.{Owners, Places, strangeMask, StrangeMask}
 use Rattle.state.specs.declared.Head.{Head}
 use Rattle.state.specs.declared.Answer.the-variants as P
 use Rattle.state.specs.Lent.{Lent}
 use Rattle.sifting.specs.declared.Sifted.{Sifted}
-use Rattle.sifting.specs.Desks.{placesIn, firstFailed}
+use Rattle.sifting.specs.Desks.{routesIn, placesIn, firstFailed}
 use Rattle.laying.specs.Lays.{Sizes, desk, refusing, starting, Laid, Lays}
-use Rattle.laying.proofs.Filling.{places-there}
+use Rattle.laying.proofs.Filling.{routes-there, places-there}
 
 module _ (B : List ℕ) (n mask : ℕ) where
   -- The events from i on are left.
@@ -52,8 +53,8 @@ module _ (B : List ℕ) (n mask : ℕ) where
     failing-more t = f ∙ rw (tab-next (eventAt B) i n l, this, t)
 
 module _ (h : Head) (E Q Z B : List ℕ) (mask : ℕ) (l : Lent h E Q Z B) where
-  pub sizes : (T : List ℕ) → length T ≡ 64 → Sizes Q E Z B T
-  sizes T t = record { pending-words = l .pending-words; edge-words = l .edge-words; horizon-words = l .horizon-words; batch-words = l .batch-words; place-words = t }
+  pub sizes : (R T : List ℕ) → length R ≡ 64 → length T ≡ 64 → Sizes Q R Z B T
+  sizes R T n t = record { pending-words = l .pending-words; route-words = n; horizon-words = l .horizon-words; batch-words = l .batch-words; place-words = t }
 
   module _ (T : List ℕ) (p : Places (eventsOf (h .batch) B) T) (x : Bool) (m : StrangeMask mask T x) where
     strange : strangeMask (eventsOf (h .batch) B) mask ≡ x
@@ -63,10 +64,11 @@ module _ (h : Head) (E Q Z B : List ℕ) (mask : ℕ) (l : Lent h E Q Z B) where
     pub lay-refused : x ≡ true → (r : Sifted) (W : List ℕ) → r ≡ refusing h mask P.MalformedReply → Lays h E Q Z B mask r W
     lay-refused t r W e = record { refused = λ _. (e, strange ∙ t); laid = λ g. not-both g (ap (λ (a : Sifted). a .going) e) }
 
-    pub lay-laid : x ≡ false → length T ≡ 64 → (W : List ℕ) → W ≡ desk Q E Z B T → (f : ℕ) → f ≡ firstFailed mask (eventsOf (h .batch) B) → Lays h E Q Z B mask (starting h mask f) W
-    lay-laid t n W w f e =
-        let there : placesIn W ≡ T = ap placesIn w ∙ places-there Q E Z B T (sizes T n) in
+    pub lay-laid : x ≡ false → length T ≡ 64 → (R : List ℕ) → length R ≡ 64 → Routes (edgesOf (h .edges) E) R → (W : List ℕ) → W ≡ desk Q R Z B T → (f : ℕ) → f ≡ firstFailed mask (eventsOf (h .batch) B) → Lays h E Q Z B mask (starting h mask f) W
+    lay-laid t n R m q W w f e =
+        let places : placesIn W ≡ T = ap placesIn w ∙ places-there Q R Z B T (sizes R T m n) in
+        let routes : routesIn W ≡ R = ap routesIn w ∙ routes-there Q R Z B T (sizes R T m n) in
         record {
           refused = λ g. not-both refl g;
-          laid = λ _. rw there (record { sifted = ap (starting h mask) e; words-are = w; placed = p; place-words = n; known = strange ∙ t });
+          laid = λ _. rw (places, routes) (record { sifted = ap (starting h mask) e; words-are = w; routed = q; route-words = m; placed = p; place-words = n; known = strange ∙ t });
         }

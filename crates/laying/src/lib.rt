@@ -1,5 +1,5 @@
-// A desk is laid for a reply: the words of the state that the reply is for, beside the place of each
-// process's event in hand, as `sifting` has them.
+// A desk is laid for a reply: words of the state that the reply is for, beside the routes along its
+// edges and the place of each process's event in hand, as `sifting` has them.
 use judging::Verdict;
 use sifting::Sifted;
 use state::Answer;
@@ -28,19 +28,19 @@ pub fn copy_at(w: &mut [u64], at: usize, from: &[u64])
 fn fill<'a>(
     words: &mut [u64],
     pending: &'a [u64],
-    edges: &'a [u64],
+    routes: &'a [u64],
     horizons: &'a [u64],
     batch: &'a [u64],
     places: &'a [u64],
 )
-    requires { ⌜ (length (now words) ≡ 6848) × Sizes (now pending) (now edges) (now horizons) (now batch) (now places) ⌝ }
-    ensures { λ _. ⌜ now (words .exit) ≡ desk (now (pending .entry)) (now (edges .entry)) (now (horizons .entry)) (now (batch .entry)) (now (places .entry)) ⌝ }
+    requires { ⌜ (length (now words) ≡ 4864) × Sizes (now pending) (now routes) (now horizons) (now batch) (now places) ⌝ }
+    ensures { λ _. ⌜ now (words .exit) ≡ desk (now (pending .entry)) (now (routes .entry)) (now (horizons .entry)) (now (batch .entry)) (now (places .entry)) ⌝ }
 {
     copy_at(words, 0, pending);
-    copy_at(words, 4096, edges);
-    copy_at(words, 6144, horizons);
-    copy_at(words, 6272, batch);
-    copy_at(words, 6784, places);
+    copy_at(words, 4096, routes);
+    copy_at(words, 4160, horizons);
+    copy_at(words, 4288, batch);
+    copy_at(words, 4800, places);
 }
 
 // The first process in hand that failed, or 64.
@@ -87,7 +87,7 @@ pub fn lay<'a>(
     mask: u64,
     words: &mut [u64],
 ) -> Sifted
-    requires { ⌜ (length (now words) ≡ 6848) × Lent head (now edges) (now pending) (now horizons) (now batch) ⌝ }
+    requires { ⌜ (length (now words) ≡ 4864) × Lent head (now edges) (now pending) (now horizons) (now batch) ⌝ }
     ensures { λ r. ⌜ Lays head (now (edges .entry)) (now (pending .entry)) (now (horizons .entry)) (now (batch .entry)) mask r (now (words .exit)) ⌝ }
 {
     let mut places = [0u64; 64];
@@ -95,7 +95,9 @@ pub fn lay<'a>(
     if replies::strange_mask(mask, &places) {
         return refuse(head, mask, Answer::MalformedReply);
     }
-    fill(words, pending, edges, horizons, batch, &places);
+    let mut routes = [0u64; 64];
+    edges::find_routes(edges, head.edges, &mut routes);
+    fill(words, pending, &routes, horizons, batch, &places);
     Sifted {
         going: true,
         last: 0,

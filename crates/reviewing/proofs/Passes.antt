@@ -14,7 +14,8 @@ use Rattle.rules.specs.Answers as A
 use Rattle.rules.specs.Rows.{Row, _⇒_}
 use Rattle.rules.specs.HandBack.{failed, processRows}
 use Rattle.records.specs.declared.Record.{Record}
-use Rattle.records.specs.Records.{recordIn, eventAt, eventOf, eventsOf}
+use Rattle.records.specs.Records.{recordIn, eventAt, eventOf, edgesOf, eventsOf}
+use Rattle.edges.specs.Routes.{Routes}
 use Rattle.replies.specs.declared.Emission.{Emission}
 use Rattle.replies.specs.Emissions.{emissionOf, emissionIn, emissionAt, emissionsOf}
 use Rattle.replies.specs.Replies.{Owners}
@@ -29,83 +30,83 @@ use Rattle.reviewing.specs.Turns.{ownRows, behind, emissionsFrom, Replie
 use Rattle.reviewing.proofs.Walk.{InTurn, turn, turn-rest, well-formed}
 
 -- One process.
-module _ (h : Head) (E Z w : List ℕ) (k p : ℕ) (time : SimTime) (from : ℕ) where
-  abbrev own : List ℕ → List ℕ → ℕ → List Row
-  own Q B i = ownRows (view h E Q Z B) (value time) p (emissionsFrom w i k)
+module _ (h : Head) (R Z w : List ℕ) (k p : ℕ) (time : SimTime) (from : ℕ) where
+  abbrev own : List ℕ → List ℕ → List ℕ → ℕ → List Row
+  own E Q B i = ownRows (view h E Q Z B) (value time) p (emissionsFrom w i k)
 
   -- The emissions from i on are left.
   pub record Own (i : ℕ) : Type 0 where
-    pub same : (Q B : List ℕ) → Same (own Q B from) (own Q B i)
+    pub same : (E Q B : List ℕ) → Routes (edgesOf (h .edges) E) R → Same (own E Q B from) (own E Q B i)
     pub rest : behind p (emissionsFrom w from k) ≡ behind p (emissionsFrom w i k)
 
   pub own-start : Own from
   unfolding Same
-  own-start = record { same = λ Q B f d. refl; rest = refl }
+  own-start = record { same = λ E Q B x f d. refl; rest = refl }
 
   module _ (i : ℕ) (o : Own i) where
     -- None is of p.
-    done : ((Q B : List ℕ) → own Q B i ≡ []) → behind p (emissionsFrom w i k) ≡ emissionsFrom w i k → JudgesOwn h E Z w from k p time (record { verdict = sound; next = i })
+    done : ((E Q B : List ℕ) → own E Q B i ≡ []) → behind p (emissionsFrom w i k) ≡ emissionsFrom w i k → JudgesOwn h R Z w from k p time (record { verdict = sound; next = i })
     done z b = record {
-      judges = λ Q B. judges-same _ _ _ (o .same Q B) (rw (z Q B) nothing);
+      judges = λ E Q B x. judges-same _ _ _ (o .same E Q B x) (rw (z E Q B) nothing);
       rest = λ _. sym (o .rest ∙ b);
     }
 
-    pub own-end : k ≤ i → JudgesOwn h E Z w from k p time (record { verdict = sound; next = i })
+    pub own-end : k ≤ i → JudgesOwn h R Z w from k p time (record { verdict = sound; next = i })
     unfolding ownRows behind
-    own-end l = let e = tab-none (emissionAt w) i k l in done (λ Q B. rw e) (rw e)
+    own-end l = let e = tab-none (emissionAt w) i k l in done (λ E Q B. rw e) (rw e)
 
     module _ (l : i < k) (e : Emission) (r : e ≡ emissionIn w (8 * i)) where
       left : emissionsFrom w i k ≡ emissionOf e ∷ emissionsFrom w (i + 1) k
       unfolding emissionAt
       left = tab-next (emissionAt w) i k l ∙ ap (λ (x : Emission). emissionOf x ∷ emissionsFrom w (i + 1) k) (sym r)
 
-      pub own-other : (e .emitter ≡ p → ⊥) → JudgesOwn h E Z w from k p time (record { verdict = sound; next = i })
+      pub own-other : (e .emitter ≡ p → ⊥) → JudgesOwn h R Z w from k p time (record { verdict = sound; next = i })
       unfolding ownRows behind if_then_else_
-      own-other n = let b = ne-eqb (e .emitter) p n in done (λ Q B. rw left (rw b)) (rw left (rw b))
+      own-other n = let b = ne-eqb (e .emitter) p n in done (λ E Q B. rw left (rw b)) (rw left (rw b))
 
-      module _ (a : e .emitter ≡ p) (v : Verdict) (j : JudgesOne h E Z e time v) where
-        front : (Q B : List ℕ) → own Q B i ≡ rowsOf (view h E Q Z B) (value time) (emissionOf e) ++ own Q B (i + 1)
+      module _ (a : e .emitter ≡ p) (v : Verdict) (j : JudgesOne h R Z e time v) where
+        front : (E Q B : List ℕ) → own E Q B i ≡ rowsOf (view h E Q Z B) (value time) (emissionOf e) ++ own E Q B (i + 1)
         unfolding ownRows if_then_else_
-        front Q B = rw left (rw (eq-eqb (e .emitter) p a))
+        front E Q B = rw left (rw (eq-eqb (e .emitter) p a))
 
-        pub own-refused : v .sound ≡ false → JudgesOwn h E Z w from k p time (record { verdict = v; next = i })
+        pub own-refused : v .sound ≡ false → JudgesOwn h R Z w from k p time (record { verdict = v; next = i })
         unfolding JudgesOne
         own-refused x = record {
-          judges = λ Q B. judges-same _ _ v (o .same Q B) (rw (front Q B) (judges-front _ (own Q B (i + 1)) v (j Q B) x));
+          judges = λ E Q B y. judges-same _ _ v (o .same E Q B y) (rw (front E Q B) (judges-front _ (own E Q B (i + 1)) v (j E Q B y) x));
           rest = λ y. absurd (true≢false (sym y ∙ x));
         }
 
         pub own-more : v .sound ≡ true → Own (i + 1)
         unfolding JudgesOne Same behind if_then_else_
         own-more x = record {
-          same = λ Q B f d. o .same Q B f d ∙ rw (front Q B) (same-behind _ (own Q B (i + 1)) v (j Q B) x f d);
+          same = λ E Q B y f d. o .same E Q B y f d ∙ rw (front E Q B) (same-behind _ (own E Q B (i + 1)) v (j E Q B y) x f d);
           rest = o .rest ∙ rw left (rw (eq-eqb (e .emitter) p a));
         }
 
 -- The events in hand.
-module _ (h : Head) (E Z B : List ℕ) (mask k : ℕ) (w : List ℕ) where
+module _ (h : Head) (R Z B : List ℕ) (mask k : ℕ) (w : List ℕ) where
   abbrev pub eventsFrom : ℕ → List Event
   eventsFrom b = tab (eventAt B) b (h .batch - b)
 
-  abbrev pub rowsLeft : List ℕ → ℕ → ℕ → List Row
-  rowsLeft Q b i = processRows (view h E Q Z B) mask (emissionsFrom w i k) (eventsFrom b)
+  abbrev pub rowsLeft : List ℕ → List ℕ → ℕ → ℕ → List Row
+  rowsLeft E Q b i = processRows (view h E Q Z B) mask (emissionsFrom w i k) (eventsFrom b)
 
   -- The events from b on and the emissions from i on are left.
   pub record Walking (b i : ℕ) : Type 0 where
-    pub same : (Q : List ℕ) → Same (processRows (view h E Q Z B) mask (emissionsOf k w) (eventsOf (h .batch) B)) (rowsLeft Q b i)
+    pub same : (E Q : List ℕ) → Routes (edgesOf (h .edges) E) R → Same (processRows (view h E Q Z B) mask (emissionsOf k w) (eventsOf (h .batch) B)) (rowsLeft E Q b i)
     pub turns : InTurn (eventsFrom b) (emissionsFrom w i k)
 
   pub walk-start : Replied (h .batch) B mask k w → Walking 0 0
   unfolding Same
   walk-start r = record {
-    same = λ Q f d. rw (tab-whole (eventAt B) 0 (h .batch) refl, tab-whole (emissionAt w) 0 k refl);
+    same = λ E Q x f d. rw (tab-whole (eventAt B) 0 (h .batch) refl, tab-whole (emissionAt w) 0 k refl);
     turns = rw (tab-whole (eventAt B) 0 (h .batch) refl, tab-whole (emissionAt w) 0 k refl) (well-formed _ mask _ (r .order) (r .formed));
   }
 
   module _ (b i : ℕ) (g : Walking b i) where
-    pub walk-end : h .batch ≤ b → JudgesReply h E Z B mask k w sound
+    pub walk-end : h .batch ≤ b → JudgesReply h R Z B mask k w sound
     unfolding JudgesReply processRows
-    walk-end l Q = judges-same _ _ _ (g .same Q) (rw (tab-none (eventAt B) b (h .batch) l) nothing)
+    walk-end l E Q x = judges-same _ _ _ (g .same E Q x) (rw (tab-none (eventAt B) b (h .batch) l) nothing)
 
     module _ (l : b < h .batch) (r : Record) (e : r ≡ recordIn B (8 * b)) where
       pub owner : Owners (h .batch) B → r .dst < 64
@@ -120,25 +121,25 @@ module _ (h : Head) (E Z B : List ℕ) (mask k : ℕ) (w : List ℕ) where
       turns = rw next at (g .turns)
 
       -- 27, then this event's emissions, then those of the events behind it.
-      this : (Q : List ℕ) → rowsLeft Q b i ≡ (failed mask (r .dst) ⇒ A.HandlerFailed (r .dst)) ∷ (ownRows (view h E Q Z B) (eventOf r .tick) (r .dst) (emissionsFrom w i k) ++ processRows (view h E Q Z B) mask (behind (r .dst) (emissionsFrom w i k)) (eventsFrom (b + 1)))
-      this Q = rw next (turn (eventOf r) (eventsFrom (b + 1)) (emissionsFrom w i k) turns (view h E Q Z B) mask)
+      this : (E Q : List ℕ) → rowsLeft E Q b i ≡ (failed mask (r .dst) ⇒ A.HandlerFailed (r .dst)) ∷ (ownRows (view h E Q Z B) (eventOf r .tick) (r .dst) (emissionsFrom w i k) ++ processRows (view h E Q Z B) mask (behind (r .dst) (emissionsFrom w i k)) (eventsFrom (b + 1)))
+      this E Q = rw next (turn (eventOf r) (eventsFrom (b + 1)) (emissionsFrom w i k) turns (view h E Q Z B) mask)
 
       module _ (x : Bool) (f : x ≡ failed mask (r .dst)) where
-        pub walk-failed : x ≡ true → JudgesReply h E Z B mask k w (refusing (P.HandlerFailed (r .dst)))
+        pub walk-failed : x ≡ true → JudgesReply h R Z B mask k w (refusing (P.HandlerFailed (r .dst)))
         unfolding JudgesReply
-        walk-failed t Q = judges-same _ _ _ (g .same Q) (rw (this Q) (struck _ _ _ (sym f ∙ t) (λ es. refl)))
+        walk-failed t E Q y = judges-same _ _ _ (g .same E Q y) (rw (this E Q) (struck _ _ _ (sym f ∙ t) (λ es. refl)))
 
-        module _ (t : x ≡ false) (time : SimTime) (u : value time ≡ eventOf r .tick) (v : Judged) (j : JudgesOwn h E Z w i k (r .dst) time v) where
-          mine : (Q : List ℕ) → Judges (ownRows (view h E Q Z B) (eventOf r .tick) (r .dst) (emissionsFrom w i k)) (v .verdict)
-          mine Q = rw u at (j .judges Q B)
+        module _ (t : x ≡ false) (time : SimTime) (u : value time ≡ eventOf r .tick) (v : Judged) (j : JudgesOwn h R Z w i k (r .dst) time v) where
+          mine : (E Q : List ℕ) → Routes (edgesOf (h .edges) E) R → Judges (ownRows (view h E Q Z B) (eventOf r .tick) (r .dst) (emissionsFrom w i k)) (v .verdict)
+          mine E Q y = rw u at (j .judges E Q B y)
 
-          pub walk-refused : v .verdict .sound ≡ false → JudgesReply h E Z B mask k w (v .verdict)
+          pub walk-refused : v .verdict .sound ≡ false → JudgesReply h R Z B mask k w (v .verdict)
           unfolding JudgesReply
-          walk-refused y Q = judges-same _ _ _ (g .same Q) (rw (this Q) (go-by _ _ _ (sym f ∙ t) (judges-front _ _ (v .verdict) (mine Q) y)))
+          walk-refused y E Q z = judges-same _ _ _ (g .same E Q z) (rw (this E Q) (go-by _ _ _ (sym f ∙ t) (judges-front _ _ (v .verdict) (mine E Q z) y)))
 
           pub walk-more : v .verdict .sound ≡ true → Walking (b + 1) (v .next)
           unfolding Same
           walk-more y = record {
-            same = λ Q f′ d. g .same Q f′ d ∙ rw (this Q, j .rest y) (passed-by _ _ (sym f ∙ t) f′ d ∙ same-behind _ _ (v .verdict) (mine Q) y f′ d);
+            same = λ E Q z f′ d. g .same E Q z f′ d ∙ rw (this E Q, j .rest y) (passed-by _ _ (sym f ∙ t) f′ d ∙ same-behind _ _ (v .verdict) (mine E Q z) y f′ d);
             turns = rw (j .rest y) (turn-rest (eventOf r) (eventsFrom (b + 1)) (emissionsFrom w i k) turns);
           }

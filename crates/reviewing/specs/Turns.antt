@@ -13,7 +13,8 @@ use Rattle.rules.specs.State.{State}
 use Rattle.rules.specs.Rows.{Row}
 use Rattle.rules.specs.Foreign.{byProcess}
 use Rattle.rules.specs.HandBack.{Emission, malformed, processRows}
-use Rattle.records.specs.Records.{eventsOf}
+use Rattle.records.specs.Records.{edgesOf, eventsOf}
+use Rattle.edges.specs.Routes.{Routes}
 use Rattle.replies.specs.Emissions.{emissionAt, emissionsOf}
 use Rattle.replies.specs.Replies.{Owners}
 use Rattle.state.specs.declared.Head.{Head}
@@ -43,11 +44,11 @@ behind p (x ∷ xs) = if eqb (x .emitter) p then behind p xs else x ∷ xs
 abbrev pub emissionsFrom : List ℕ → ℕ → ℕ → List Emission
 emissionsFrom w i k = tab (emissionAt w) i (k - i)
 
--- The emissions of p from i on are judged, and where none is refused, `next` is where they end.
-pub record JudgesOwn (h : Head) (E Z w : List ℕ) (i k p : ℕ) (time : SimTime) (r : Judged) : Type 0 where
-  pub judges : (P B : List ℕ) → Judges (ownRows (view h E P Z B) (value time) p (emissionsFrom w i k)) (r .verdict)
+-- The emissions of p from i on are judged, for any edges that the routes are of, and where none is refused, `next` is where they end.
+pub record JudgesOwn (h : Head) (R Z w : List ℕ) (i k p : ℕ) (time : SimTime) (r : Judged) : Type 0 where
+  pub judges : (E P B : List ℕ) → Routes (edgesOf (h .edges) E) R → Judges (ownRows (view h E P Z B) (value time) p (emissionsFrom w i k)) (r .verdict)
   pub rest : r .verdict .sound ≡ true → emissionsFrom w (r .next) k ≡ behind p (emissionsFrom w i k)
 
--- Whatever the pending words are.
+-- For any edges that the routes are of, whatever the pending words are.
 unfoldable pub JudgesReply : Head → List ℕ → List ℕ → List ℕ → ℕ → ℕ → List ℕ → Verdict → Type 0
-JudgesReply h E Z B mask k w r = (P : List ℕ) → Judges (processRows (view h E P Z B) mask (emissionsOf k w) (eventsOf (h .batch) B)) r
+JudgesReply h R Z B mask k w r = (E P : List ℕ) → Routes (edgesOf (h .edges) E) R → Judges (processRows (view h E P Z B) mask (emissionsOf k w) (eventsOf (h .batch) B)) r

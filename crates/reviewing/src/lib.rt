@@ -3,7 +3,7 @@ use judging::Verdict;
 use state::Answer;
 use state::Head;
 use types::SimTime;
-ghost use Prim.Native.Nat.{_*_, _≤_};
+ghost use Prim.Native.Nat.{_*_, _≤_, _<_};
 ghost use lib.ListN.{length};
 ghost use Rattle.judging.specs.Judges.{Judgeable};
 ghost use Rattle.reviewing.specs.Turns.{Replied, JudgesOwn, JudgesReply};
@@ -17,7 +17,7 @@ pub struct Judged {
 // 28 to 33 of the emissions from `from` on that are of process p, whose event has the tick `time`.
 fn judge_process<'a>(
     head: Head,
-    edges: &'a [u64],
+    routes: &'a [u64],
     horizons: &'a [u64],
     w: &'a [u64],
     from: usize,
@@ -25,8 +25,8 @@ fn judge_process<'a>(
     p: u64,
     time: SimTime,
 ) -> Judged
-    requires { ⌜ Judgeable head (now edges) (now horizons) × (8 * count ≤ length (now w)) ⌝ }
-    ensures { λ r. ⌜ JudgesOwn head (now (edges .entry)) (now (horizons .entry)) (now (w .entry)) from count p time r ⌝ }
+    requires { ⌜ Judgeable head (now routes) (now horizons) × (8 * count ≤ length (now w)) × (p < 64) ⌝ }
+    ensures { λ r. ⌜ JudgesOwn head (now (routes .entry)) (now (horizons .entry)) (now (w .entry)) from count p time r ⌝ }
 {
     let mut i = from;
     while i < count {
@@ -40,7 +40,7 @@ fn judge_process<'a>(
                 next: i,
             };
         }
-        let verdict = judging::judge(head, edges, horizons, e, time);
+        let verdict = judging::judge(head, routes, horizons, e, time);
         if !verdict.sound {
             return Judged {
                 verdict: verdict,
@@ -62,15 +62,15 @@ fn judge_process<'a>(
 // process stand one behind the other, and those of a later one behind them.
 pub fn judge_reply<'a>(
     head: Head,
-    edges: &'a [u64],
+    routes: &'a [u64],
     horizons: &'a [u64],
     batch: &'a [u64],
     mask: u64,
     w: &'a [u64],
     count: usize,
 ) -> Verdict
-    requires { ⌜ Judgeable head (now edges) (now horizons) × Replied (head .batch) (now batch) mask count (now w) ⌝ }
-    ensures { λ r. ⌜ JudgesReply head (now (edges .entry)) (now (horizons .entry)) (now (batch .entry)) mask count (now (w .entry)) r ⌝ }
+    requires { ⌜ Judgeable head (now routes) (now horizons) × Replied (head .batch) (now batch) mask count (now w) ⌝ }
+    ensures { λ r. ⌜ JudgesReply head (now (routes .entry)) (now (horizons .entry)) (now (batch .entry)) mask count (now (w .entry)) r ⌝ }
 {
     let events = head.batch;
     let mut b: usize = 0;
@@ -84,7 +84,7 @@ pub fn judge_reply<'a>(
             };
         }
         let time = event.tick();
-        let judged = judge_process(head, edges, horizons, w, i, count, event.dst, time);
+        let judged = judge_process(head, routes, horizons, w, i, count, event.dst, time);
         let verdict = judged.verdict;
         if !verdict.sound {
             return verdict;

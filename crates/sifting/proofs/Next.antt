@@ -29,7 +29,7 @@ use Rattle.judging.specs.Judges.{Judges, Judgeable, JudgesOne}
 use Rattle.judging.proofs.Verdicts.{judges-same, same-behind, judges-front}
 use Rattle.state.specs.declared.Head.{Head}
 use Rattle.sifting.specs.declared.Sifted.{Sifted}
-use Rattle.sifting.specs.Desks.{edgesIn, horizonsIn, batchIn, placesIn, counted, rowsOfNext}
+use Rattle.sifting.specs.Desks.{routesIn, horizonsIn, batchIn, placesIn, counted, rowsOfNext}
 use Rattle.sifting.specs.Sifts.{Seated, Roomy, Takes, timeIn, refusedReply, judgedReply, NextVerdict, JudgesNext}
 
 -- A part of a desk is as long as it is meant to be.
@@ -59,15 +59,15 @@ module _ (D : List ℕ) (a : Sifted) (e : Emission) where
   -- The verdict so far stays.
   pub stays-refused : a .verdict .sound ≡ false → NextVerdict D a e (a .verdict)
   unfolding NextVerdict
-  stays-refused x Q B rs j = judges-front rs _ (a .verdict) j x
+  stays-refused x E Q B w rs j = judges-front rs _ (a .verdict) j x
 
   pub stays-behind : a .failed < e .emitter → NextVerdict D a e (a .verdict)
   unfolding NextVerdict rowsOfNext if_then_else_
-  stays-behind l Q B rs j = rw (lt-ltb (a .failed) (e .emitter) l, append-nil) j
+  stays-behind l E Q B w rs j = rw (lt-ltb (a .failed) (e .emitter) l, append-nil) j
 
-  pub judges-it : a .verdict .sound ≡ true → e .emitter ≤ a .failed → (t : SimTime) → value t ≡ timeIn D (e .emitter) → (v : Verdict) → JudgesOne (a .head) (edgesIn D) (horizonsIn D) e t v → NextVerdict D a e v
+  pub judges-it : a .verdict .sound ≡ true → e .emitter ≤ a .failed → (t : SimTime) → value t ≡ timeIn D (e .emitter) → (v : Verdict) → JudgesOne (a .head) (routesIn D) (horizonsIn D) e t v → NextVerdict D a e v
   unfolding NextVerdict rowsOfNext if_then_else_ JudgesOne
-  judges-it x l t u v j Q B rs k = rw (le-ltb (a .failed) (e .emitter) l, ← u) (judges-same _ _ v (same-behind rs _ (a .verdict) k x) (j Q B))
+  judges-it x l t u v j E Q B w rs k = rw (le-ltb (a .failed) (e .emitter) l, ← u) (judges-same _ _ v (same-behind rs _ (a .verdict) k x) (j E Q B w))
 
   -- The emitter of an emission that is not malformed has an event in hand.
   pub seat : Seated D (a .head) → illFormed (eventsOf (a .head .batch) (batchIn D)) (a .mask) (a .last) (emissionOf e) ≡ false → getD (placesIn D) (e .emitter) 0 ≡ 0 → ⊥
@@ -105,23 +105,23 @@ module _ (D : List ℕ) (a : Sifted) (e : Emission) where
         sound-before = s;
       })
 
-      pub seated : Seated D (a .head) → length D ≡ 6848 → (e .emitter < 64) × (0 < getD (placesIn D) (e .emitter) 0) × (getD (placesIn D) (e .emitter) 0 ≤ 64)
+      pub seated : Seated D (a .head) → length D ≡ 4864 → (e .emitter < 64) × (0 < getD (placesIn D) (e .emitter) 0) × (getD (placesIn D) (e .emitter) 0 ≤ 64)
       unfolding IllFormed
       seated s l =
           let n : (getD (placesIn D) (e .emitter) 0 ≡ 0 → ⊥) = seat s (sym (ill (eventsOf (a .head .batch) (batchIn D)) (s .places)) ∙ f) in
           let k : getD (placesIn D) (e .emitter) 0 ≡ getD (placesIn D) (e .emitter) 0 - 1 + 1 = omega (arith, n) in
           let p = place-first (batchIn D) (a .head .batch) (placesIn D) (e .emitter) (getD (placesIn D) (e .emitter) 0 - 1) (s .places) k in
-          let w = part-length D 6784 64 (omega arith) in (
+          let w = part-length D 4800 64 (omega arith) in (
             ⊎-elim (λ (h : e .emitter < 64). h) (λ (h : 64 ≤ e .emitter). absurd (n (past-end (placesIn D) (e .emitter) w h))) (lt-or-ge (e .emitter) 64),
             omega (arith, n),
             omega (arith, p .0, s .few-batch),
           )
 
-pub judgeable : (D : List ℕ) (h : Head) → length D ≡ 6848 → Seated D h → Judgeable h (edgesIn D) (horizonsIn D)
+pub judgeable : (D : List ℕ) (h : Head) → length D ≡ 4864 → Seated D h → Judgeable h (routesIn D) (horizonsIn D)
 judgeable D h l s = record {
   few = s .few;
-  edge-words = omega (arith, s .few-edges, part-length D 4096 2048 (omega arith));
-  horizon-words = part-length D 6144 128 (omega arith);
+  route-words = part-length D 4096 64 (omega arith);
+  horizon-words = part-length D 4160 128 (omega arith);
 }
 
 -- Whether there is room for k emissions.

@@ -23,7 +23,7 @@ module _ (D : List ℕ) (a : Sifted) (i : ℕ) (e : Emission) (rd : Ready D a i)
   take-shut g = record { long = refl; beyond = refl; shut = λ _. refl; judges = λ y. not-both y g; queued = λ r. not-both (r .opened) g }
 
   module _ (g : a .going ≡ true) where
-    pub can-judge : (length D ≡ 6848) × (a .going ≡ true) × Seated D (a .head)
+    pub can-judge : (length D ≡ 4864) × (a .going ≡ true) × Seated D (a .head)
     can-judge = (rd .long, g, rd .seated g)
 
     module _ (b : Sifted) (j : JudgesNext D a e b) where

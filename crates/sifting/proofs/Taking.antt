@@ -10,7 +10,8 @@ use Rattle.rules.specs.State.{Event}
 use Rattle.rules.specs.Pending.{insert, queue, firstOf, firstTick, tickOr}
 use Rattle.rules.specs.HandBack.{messages}
 use Rattle.rules.proofs.Tests.{by-bool, not-both, not-true, not-false}
-use Rattle.records.specs.Records.{eventAt, eventsOf}
+use Rattle.records.specs.Records.{eventAt, edgesOf, eventsOf}
+use Rattle.edges.specs.Routes.{Routes}
 use Rattle.replies.specs.declared.Emission.{Emission}
 use Rattle.replies.specs.Emissions.{emissionOf}
 use Rattle.replies.specs.Replies.{Places, illFormed, anyIllFormed}
@@ -21,7 +22,7 @@ use Rattle.queueing.proofs.Turns.{drop-further}
 use Rattle.state.specs.declared.Head.{Head}
 use Rattle.state.specs.View.{view}
 use Rattle.sifting.specs.declared.Sifted.{Sifted}
-use Rattle.sifting.specs.Desks.{edgesIn, horizonsIn, batchIn, placesIn, lastOf, counted, rowsUpTo}
+use Rattle.sifting.specs.Desks.{routesIn, horizonsIn, batchIn, placesIn, lastOf, counted, rowsUpTo}
 use Rattle.sifting.specs.Sifts.{Seated, Roomy, timeIn, NextVerdict, JudgesNext, Ready, Sifts}
 use Rattle.sifting.specs.Taken.{replyOf, inHand, Begun, Taken}
 use Rattle.sifting.proofs.Next.{seat}
@@ -40,7 +41,7 @@ taken-start D a b = record {
   refused = λ g h. not-both g h;
   last = λ _. b .none-last;
   remote = λ _. b .none-remote;
-  judged = λ g Q B. rw (b .none-judged g) nothing;
+  judged = λ g X Q B w. rw (b .none-judged g) nothing;
   queued = λ _. let e : a .head .pending + 0 ≡ a .head .pending = omega arith in rw e;
 }
 
@@ -72,10 +73,9 @@ module _ (D : List ℕ) (a : Sifted) (ys : List Emission) (E : List ℕ) (b : Si
       let s = d .seated (was-going g) in
       rw (t .same-head) (record {
         few = s .few;
-        few-edges = s .few-edges;
         few-pending = s .few-pending;
         few-batch = s .few-batch;
-        places = rw (same-part 6272 512 E D (omega arith) (t .beyond), same-part 6784 64 E D (omega arith) (t .beyond)) (s .places);
+        places = rw (same-part 4288 512 E D (omega arith) (t .beyond), same-part 4800 64 E D (omega arith) (t .beyond)) (s .places);
       })
 
   pub taken-ready : Ready E b (length ys)
@@ -133,7 +133,7 @@ module _ (D : List ℕ) (a : Sifted) (ys : List Emission) (E : List ℕ) (b : Si
       h = was-going g
 
       batch-same : batchIn E ≡ batchIn D
-      batch-same = same-part 6272 512 E D (omega arith) (t .beyond)
+      batch-same = same-part 4288 512 E D (omega arith) (t .beyond)
 
       hand-same : inHand E b ≡ inHand D a
       hand-same = rw (batch-same, t .same-head)
@@ -151,12 +151,13 @@ module _ (D : List ℕ) (a : Sifted) (ys : List Emission) (E : List ℕ) (b : Si
       time : r .going ≡ true → timeIn E (e .emitter) ≡ firstTick (inHand D a) (e .emitter) 0
       time k = rw (← hand-same) (time-is E b e (seated g) (not-false-of (sym (j .formed (inHand E b) (seated g .places)) ∙ k)))
 
-      judged-more : r .going ≡ true → (Q B : List ℕ) → Judges (rowsUpTo (view (a .head) (edgesIn D) Q (horizonsIn D) B) (inHand D a) (a .failed) (replyOf (ys ++ (e ∷ [])))) (r .verdict)
+      judged-more : r .going ≡ true → (X Q B : List ℕ) → Routes (edgesOf (a .head .edges) X) (routesIn D) → Judges (rowsUpTo (view (a .head) X Q (horizonsIn D) B) (inHand D a) (a .failed) (replyOf (ys ++ (e ∷ [])))) (r .verdict)
       unfolding NextVerdict
-      judged-more k Q B =
-          let now = j .judged k Q B (rowsUpTo (view (a .head) (edgesIn D) Q (horizonsIn D) B) (inHand D a) (a .failed) (replyOf ys)) (t .judged g Q B) in
-          rw (map-snoc emissionOf ys e, rows-snoc (view (a .head) (edgesIn D) Q (horizonsIn D) B) (inHand D a) (a .failed) (replyOf ys) (emissionOf e))
-          (rw (time k, same-part 4096 2048 E D (omega arith) (t .beyond), same-part 6144 128 E D (omega arith) (t .beyond), t .same-head, t .same-failed) at now)
+      judged-more k X Q B w =
+          let v : Routes (edgesOf (b .head .edges) X) (routesIn E) = rw (t .same-head, same-part 4096 64 E D (omega arith) (t .beyond)) w in
+          let now = j .judged k X Q B v (rowsUpTo (view (a .head) X Q (horizonsIn D) B) (inHand D a) (a .failed) (replyOf ys)) (t .judged g X Q B w) in
+          rw (map-snoc emissionOf ys e, rows-snoc (view (a .head) X Q (horizonsIn D) B) (inHand D a) (a .failed) (replyOf ys) (emissionOf e))
+          (rw (time k, same-part 4160 128 E D (omega arith) (t .beyond), t .same-head, t .same-failed) at now)
 
       queued-more : Roomy r (length (ys ++ (e ∷ []))) → eventsOf (a .head .pending + length (ys ++ (e ∷ []))) F ≡ queue (eventsOf (a .head .pending) D) (a .head .next) (messages (replyOf (ys ++ (e ∷ []))))
       queued-more q =

@@ -11,17 +11,17 @@ use Rattle.rules.specs.Pending.{firstTick}
 use Rattle.rules.specs.HandBack.{Emission, failed, isRemote}
 use Rattle.judging.specs.Judges.{rowsOf}
 
-abbrev pub edgesIn : List ℕ → List ℕ
-edgesIn D = take 2048 (drop 4096 D)
+abbrev pub routesIn : List ℕ → List ℕ
+routesIn D = take 64 (drop 4096 D)
 
 abbrev pub horizonsIn : List ℕ → List ℕ
-horizonsIn D = take 128 (drop 6144 D)
+horizonsIn D = take 128 (drop 4160 D)
 
 abbrev pub batchIn : List ℕ → List ℕ
-batchIn D = take 512 (drop 6272 D)
+batchIn D = take 512 (drop 4288 D)
 
 abbrev pub placesIn : List ℕ → List ℕ
-placesIn D = take 64 (drop 6784 D)
+placesIn D = take 64 (drop 4800 D)
 
 -- The emitter of the last emission, or `last` if there is none.
 unfoldable pub lastOf : ℕ → List Emission → ℕ

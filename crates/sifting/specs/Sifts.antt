@@ -9,7 +9,8 @@ use Rattle.rules.specs.Base.{any, rising}
 use Rattle.rules.specs.State.{Event, most, numbered}
 use Rattle.rules.specs.Rows.{Row}
 use Rattle.rules.specs.Pending.{before, insert}
-use Rattle.records.specs.Records.{eventAt, eventsOf}
+use Rattle.records.specs.Records.{eventAt, edgesOf, eventsOf}
+use Rattle.edges.specs.Routes.{Routes}
 use Rattle.replies.specs.declared.Emission as W
 use Rattle.replies.specs.Emissions.{emissionOf}
 use Rattle.replies.specs.Replies.{Places, illFormed}
@@ -19,12 +20,11 @@ use Rattle.state.specs.declared.Head.{Head}
 use Rattle.state.specs.declared.Answer.the-variants as P
 use Rattle.state.specs.View.{view}
 use Rattle.sifting.specs.declared.Sifted.{Sifted}
-use Rattle.sifting.specs.Desks.{edgesIn, horizonsIn, batchIn, placesIn, counted, rowsOfNext}
+use Rattle.sifting.specs.Desks.{routesIn, horizonsIn, batchIn, placesIn, counted, rowsOfNext}
 
 -- What judging asks: the words that the head speaks of are on the desk.
 pub record Seated (D : List ℕ) (h : Head) : Type 0 where
   pub few : h .n ≤ 64
-  pub few-edges : h .edges ≤ 512
   pub few-pending : h .pending ≤ 512
   pub few-batch : h .batch ≤ 64
   pub places : Places (eventsOf (h .batch) (batchIn D)) (placesIn D)
@@ -53,9 +53,9 @@ judgedReply a p remote v = record { going = a .going; last = p; remote = remote;
 abbrev pub timeIn : List ℕ → ℕ → ℕ
 timeIn D p = eventAt (batchIn D) (getD (placesIn D) p 0 - 1) .tick
 
--- A verdict of rows, with those of the emission e behind them. They read neither pending words nor those in hand.
+-- A verdict of rows, with those of the emission e behind them, for any edges that the desk's routes are of. They read neither pending words nor those in hand.
 unfoldable pub NextVerdict : List ℕ → Sifted → W.Emission → Verdict → Type 0
-NextVerdict D a e v = (Q B : List ℕ) (rs : List Row) → Judges rs (a .verdict) → Judges (rs ++ rowsOfNext (view (a .head) (edgesIn D) Q (horizonsIn D) B) (a .failed) (timeIn D (e .emitter)) (emissionOf e)) v
+NextVerdict D a e v = (E Q B : List ℕ) → Routes (edgesOf (a .head .edges) E) (routesIn D) → (rs : List Row) → Judges rs (a .verdict) → Judges (rs ++ rowsOfNext (view (a .head) E Q (horizonsIn D) B) (a .failed) (timeIn D (e .emitter)) (emissionOf e)) v
 
 -- The emission e is judged, a reply that goes on being taken as far as a.
 pub record JudgesNext (D : List ℕ) (a : Sifted) (e : W.Emission) (r : Sifted) : Type 0 where
@@ -71,7 +71,7 @@ pub record JudgesNext (D : List ℕ) (a : Sifted) (e : W.Emission) (r : Sifted) 
 
 -- What taking emission i asks. The events queued so far are in order, and the next number is above theirs.
 pub record Ready (D : List ℕ) (a : Sifted) (i : ℕ) : Type 0 where
-  pub long : length D ≡ 6848
+  pub long : length D ≡ 4864
   pub seated : a .going ≡ true → Seated D (a .head)
   pub queueable : Roomy a (i + 1) → (rising before (eventsOf (a .head .pending + i) D) ≡ true) × (any (λ e. leb (a .head .next + i) (e .sequence)) (eventsOf (a .head .pending + i) D) ≡ false)
 

@@ -10,7 +10,8 @@ use Rattle.rules.specs.State.{Event, raise, most}
 use Rattle.rules.specs.Pending.{before, queue}
 use Rattle.rules.specs.HandBack as R
 use Rattle.rules.specs.HandBack.{messages, isRemote}
-use Rattle.records.specs.Records.{eventsOf}
+use Rattle.records.specs.Records.{edgesOf, eventsOf}
+use Rattle.edges.specs.Routes.{Routes}
 use Rattle.replies.specs.declared.Emission.{Emission}
 use Rattle.replies.specs.Emissions.{emissionOf}
 use Rattle.replies.specs.Replies.{anyIllFormed}
@@ -18,7 +19,7 @@ use Rattle.judging.specs.Judges.{Judges}
 use Rattle.state.specs.declared.Answer.the-variants as P
 use Rattle.state.specs.View.{view}
 use Rattle.sifting.specs.declared.Sifted.{Sifted}
-use Rattle.sifting.specs.Desks.{edgesIn, horizonsIn, batchIn, lastOf, rowsUpTo}
+use Rattle.sifting.specs.Desks.{routesIn, horizonsIn, batchIn, lastOf, rowsUpTo}
 use Rattle.sifting.specs.Sifts.{Seated, Roomy}
 
 -- The emissions of structs, as the rules have them.
@@ -31,7 +32,7 @@ inHand D a = eventsOf (a .head .batch) (batchIn D)
 
 -- A desk on which nothing is taken yet.
 pub record Begun (D : List ℕ) (a : Sifted) : Type 0 where
-  pub long : length D ≡ 6848
+  pub long : length D ≡ 4864
   pub seated : a .going ≡ true → Seated D (a .head)
   pub ordered : a .going ≡ true → rising before (eventsOf (a .head .pending) D) ≡ true
   pub newest : a .going ≡ true → any (λ e. leb (a .head .next) (e .sequence)) (eventsOf (a .head .pending) D) ≡ false
@@ -39,7 +40,7 @@ pub record Begun (D : List ℕ) (a : Sifted) : Type 0 where
   pub none-remote : a .remote ≡ 0
   pub none-judged : a .going ≡ true → a .verdict ≡ record { sound = true; answer = P.Accepted }
 
--- From the desk D and a, the emissions ys are taken: the desk is E, and b says how far it came.
+-- From the desk D and a, the emissions ys are taken: the desk is E, and b says how far it came. X is any edges that the routes are of.
 pub record Taken (D : List ℕ) (a : Sifted) (ys : List Emission) (E : List ℕ) (b : Sifted) : Type 0 where
   pub long : length E ≡ length D
   pub beyond : drop 4096 E ≡ drop 4096 D
@@ -51,5 +52,5 @@ pub record Taken (D : List ℕ) (a : Sifted) (ys : List Emission) (E : List ℕ)
   pub refused : a .going ≡ true → b .going ≡ false → b .verdict .answer ≡ P.MalformedReply
   pub last : b .going ≡ true → b .last ≡ lastOf 0 (replyOf ys)
   pub remote : b .going ≡ true → b .remote ≡ raise 0 (count isRemote (replyOf ys))
-  pub judged : b .going ≡ true → (Q B : List ℕ) → Judges (rowsUpTo (view (a .head) (edgesIn D) Q (horizonsIn D) B) (inHand D a) (a .failed) (replyOf ys)) (b .verdict)
+  pub judged : b .going ≡ true → (X Q B : List ℕ) → Routes (edgesOf (a .head .edges) X) (routesIn D) → Judges (rowsUpTo (view (a .head) X Q (horizonsIn D) B) (inHand D a) (a .failed) (replyOf ys)) (b .verdict)
   pub queued : Roomy b (length ys) → eventsOf (a .head .pending + length ys) E ≡ queue (eventsOf (a .head .pending) D) (a .head .next) (messages (replyOf ys))

@@ -1,9 +1,9 @@
 // A reply's emissions one by one: each is judged by 26 and by 28 to 33 and, while nothing is refused,
 // queued. So a reply can be taken in one pass, in whatever form it is lent and however long it is.
 //
-// The desk is words of the state that the reply is for: the pending ones from 0, edges from 4096,
-// local horizons from 6144, the events in hand from 6272, and from 6784 the place of each process's
-// event, as in `replies`.
+// The desk is words of the state that the reply is for: the pending ones from 0, from 4096 the routes
+// along its edges, as in `edges`, the local horizons from 4160, the events in hand from 4288, and from
+// 4800 the place of each process's event, as in `replies`.
 use judging::Verdict;
 use replies::Emission;
 use state::Answer;
@@ -38,7 +38,7 @@ pub struct Sifted {
 
 // A desk, and how far a reply has been taken on it.
 pub struct Desk {
-    pub words: [u64; 6848],
+    pub words: [u64; 4864],
     pub sifted: Sifted,
 }
 
@@ -54,12 +54,12 @@ fn count_one(remote: u64, e: Emission) -> u64
 
 // The tick of p's event in hand.
 fn time_of(words: &[u64], p: u64) -> SimTime
-    requires { ⌜ (length (now words) ≡ 6848) × (p < 64) × (0 < getD (placesIn (now words)) p 0) × (getD (placesIn (now words)) p 0 ≤ 64) ⌝ }
+    requires { ⌜ (length (now words) ≡ 4864) × (p < 64) × (0 < getD (placesIn (now words)) p 0) × (getD (placesIn (now words)) p 0 ≤ 64) ⌝ }
     ensures { λ r. ⌜ value r ≡ timeIn (now (words .entry)) p ⌝ }
 {
-    let places = &words[6784..6848];
+    let places = &words[4800..4864];
     let k = places[p as usize] as usize - 1;
-    let batch = &words[6272..6784];
+    let batch = &words[4288..4800];
     let r = records::record_in(batch, 8 * k);
     r.tick()
 }
@@ -92,10 +92,10 @@ fn judged(a: Sifted, p: u64, remote: u64, verdict: Verdict) -> Sifted
 // 26 of the emission e, then 28 to 33 unless something is refused already or a process before e's
 // failed.
 fn judge_next(words: &[u64], a: Sifted, e: Emission) -> Sifted
-    requires { ⌜ (length (now words) ≡ 6848) × (a .going ≡ true) × Seated (now words) (a .head) ⌝ }
+    requires { ⌜ (length (now words) ≡ 4864) × (a .going ≡ true) × Seated (now words) (a .head) ⌝ }
     ensures { λ r. ⌜ JudgesNext (now (words .entry)) a e r ⌝ }
 {
-    let places = &words[6784..6848];
+    let places = &words[4800..4864];
     if replies::ill_formed(e, a.last, a.mask, places) {
         return malformed(a);
     }
@@ -109,9 +109,9 @@ fn judge_next(words: &[u64], a: Sifted, e: Emission) -> Sifted
     }
     let time = time_of(words, e.emitter);
     let head = a.head;
-    let edges = &words[4096..6144];
-    let horizons = &words[6144..6272];
-    let verdict = judging::judge(head, edges, horizons, e, time);
+    let routes = &words[4096..4160];
+    let horizons = &words[4160..4288];
+    let verdict = judging::judge(head, routes, horizons, e, time);
     judged(a, e.emitter, remote, verdict)
 }
 
@@ -155,7 +155,7 @@ fn take_in(words: &mut [u64], a: Sifted, i: usize, e: Emission) -> Sifted
     b
 }
 
-pub fn sift(words: &mut [u64; 6848], a: Sifted, i: usize, e: Emission) -> Sifted
+pub fn sift(words: &mut [u64; 4864], a: Sifted, i: usize, e: Emission) -> Sifted
     requires { ⌜ Ready (now words) a i ⌝ }
     ensures { λ r. ⌜ Sifts (now (words .entry)) a i e (now (words .exit)) r ⌝ }
 {

@@ -2,6 +2,7 @@ use borrow.Author.Needs.{needs}
 use mathlib.Core.Path.{_∙_}
 use Rattle.rules.proofs.Tests.{not-true, not-false}
 use Rattle.judging.proofs.InHand.{findable}
+use Rattle.judging.proofs.Wired.{routable}
 use Rattle.handing.proofs.Back.{malformed-by, judgeable, settleable, back-dead, back-empty, back-malformed, back-lost, back-settled, verdict-of}
 use Rattle.handing.proofs.hand_back.Statement.{statement}
 use Rattle.handing.proofs.hand_back.Tie as tie
@@ -46,20 +47,39 @@ returns-3 c =
     let start = healthy .before .before .before .before .before .before in
     back-malformed (start .args .head) (start .args .counters) _ _ _ _ (start .args .mask) _ (start .pre) (healthy .if1 .left) (held .if2 .left) (malformed-by _ (start .args .mask) _ _ _ (found .find-places .ensures) (malformed .malformed .ensures) ∙ c .if3 .taken)
 
-judge-reply-requires : tie.Need-judge-reply-requires
-judge-reply-requires c κs =
-    let formed = c .before .before in
+slice-aggregate-find-routes : tie.Need-slice-aggregate-find-routes
+slice-aggregate-find-routes c = search needs
+
+find-routes-requires : tie.Need-find-routes-requires
+find-routes-requires c κs =
+    let formed = c .before in
     let malformed = formed .before in
     let found = malformed .before .before .before in
     let held = found .before .before .before in
     let healthy = held .before .before in
     let start = healthy .before .before .before .before .before .before in
-    judgeable (start .args .head) _ _ _ _ (start .args .mask) _ (start .pre) (malformed-by _ (start .args .mask) _ _ _ (found .find-places .ensures) (malformed .malformed .ensures) ∙ formed .if3 .left)
+    let f = routable (start .args .head) _ _ _ _ (start .pre) in
+    (f .0, search needs, f .1)
+
+slice-aggregate-judge-reply : tie.Need-slice-aggregate-judge-reply
+slice-aggregate-judge-reply c = search needs
+
+judge-reply-requires : tie.Need-judge-reply-requires
+judge-reply-requires c κs =
+    let routes = c .before .before .before .before in
+    let formed = routes .before .before in
+    let malformed = formed .before in
+    let found = malformed .before .before .before in
+    let held = found .before .before .before in
+    let healthy = held .before .before in
+    let start = healthy .before .before .before .before .before .before in
+    judgeable (start .args .head) _ _ _ _ (start .args .mask) _ (start .pre) _ (search (c .before .before .before .routes2 .given, needs)) (malformed-by _ (start .args .mask) _ _ _ (found .find-places .ensures) (malformed .malformed .ensures) ∙ formed .if3 .left)
 
 lose-requires : tie.Need-lose-requires
 lose-requires c κs =
     let judged = c .before .before .before in
-    let formed = judged .before .before .before in
+    let routes = judged .before .before .before .before .before in
+    let formed = routes .before .before in
     let malformed = formed .before in
     let found = malformed .before .before .before in
     let held = found .before .before .before in
@@ -78,18 +98,20 @@ returns-4 c =
     let lose = c .before .before in
     let unsound = lose .before .before in
     let judged = unsound .before .before in
-    let formed = judged .before .before .before in
+    let routes = judged .before .before .before .before .before in
+    let formed = routes .before .before in
     let malformed = formed .before in
     let found = malformed .before .before .before in
     let held = found .before .before .before in
     let healthy = held .before .before in
     let start = healthy .before .before .before .before .before .before in
-    back-lost (start .args .head) (start .args .counters) _ _ _ _ (start .args .mask) _ (start .pre) (healthy .if1 .left) (held .if2 .left) (malformed-by _ (start .args .mask) _ _ _ (found .find-places .ensures) (malformed .malformed .ensures) ∙ formed .if3 .left) (judged .judge-reply .result) (verdict-of (start .args .head) _ _ _ _ (start .args .mask) _ _ _ (judged .judge-reply .ensures)) (not-true _ (unsound .if4 .taken)) (lose .lose .result) _ (lose .lose .ensures)
+    back-lost (start .args .head) (start .args .counters) _ _ _ _ (start .args .mask) _ (start .pre) (healthy .if1 .left) (held .if2 .left) (malformed-by _ (start .args .mask) _ _ _ (found .find-places .ensures) (malformed .malformed .ensures) ∙ formed .if3 .left) (judged .judge-reply .result) (verdict-of (start .args .head) _ _ _ _ (start .args .mask) _ _ _ (routes .find-routes .ensures) _ (judged .judge-reply .ensures)) (not-true _ (unsound .if4 .taken)) (lose .lose .result) _ (lose .lose .ensures)
 
 settle-requires : tie.Need-settle-requires
 settle-requires c κs =
     let judged = c .before .before .before .before .before in
-    let formed = judged .before .before .before in
+    let routes = judged .before .before .before .before .before in
+    let formed = routes .before .before in
     let malformed = formed .before in
     let found = malformed .before .before .before in
     let held = found .before .before .before in
@@ -111,13 +133,14 @@ returns-5 c =
     let settle = c .before .before .before .before .before .before in
     let sound = settle .before .before .before .before in
     let judged = sound .before .before in
-    let formed = judged .before .before .before in
+    let routes = judged .before .before .before .before .before in
+    let formed = routes .before .before in
     let malformed = formed .before in
     let found = malformed .before .before .before in
     let held = found .before .before .before in
     let healthy = held .before .before in
     let start = healthy .before .before .before .before .before .before in
-    back-settled (start .args .head) (start .args .counters) _ _ _ _ (start .args .mask) _ (start .pre) (healthy .if1 .left) (held .if2 .left) (malformed-by _ (start .args .mask) _ _ _ (found .find-places .ensures) (malformed .malformed .ensures) ∙ formed .if3 .left) (judged .judge-reply .result) (verdict-of (start .args .head) _ _ _ _ (start .args .mask) _ _ _ (judged .judge-reply .ensures)) (not-false _ (sound .if4 .left)) (settle .settle .result) _ _ _ (settle .settle .ensures)
+    back-settled (start .args .head) (start .args .counters) _ _ _ _ (start .args .mask) _ (start .pre) (healthy .if1 .left) (held .if2 .left) (malformed-by _ (start .args .mask) _ _ _ (found .find-places .ensures) (malformed .malformed .ensures) ∙ formed .if3 .left) (judged .judge-reply .result) (verdict-of (start .args .head) _ _ _ _ (start .args .mask) _ _ _ (routes .find-routes .ensures) _ (judged .judge-reply .ensures)) (not-false _ (sound .if4 .left)) (settle .settle .result) _ _ _ (settle .settle .ensures)
 
 pub hand-back-spec : {M : Type 1} → statement M
 hand-back-spec =
@@ -131,6 +154,9 @@ hand-back-spec =
     malformed-requires
     same-length
     returns-3
+    slice-aggregate-find-routes
+    find-routes-requires
+    slice-aggregate-judge-reply
     judge-reply-requires
     lose-requires
     same-length-2

@@ -10,8 +10,8 @@ returns c = search (mismatch, needs)
 returns-2 : tie.Need-returns-2
 returns-2 c = search (unknown, needs)
 
-routed-requires : tie.Need-routed-requires
-routed-requires c κs = search needs
+leads-requires : tie.Need-leads-requires
+leads-requires c κs = search needs
 
 returns-3 : tie.Need-returns-3
 returns-3 c =
@@ -19,7 +19,7 @@ returns-3 c =
     let known = routed .before in
     let own = known .before .before in
     let start = own .before .before .before .before in
-    unrouted (start .args .head) _ _ (start .args .e) (start .args .time) (own .if1 .left) (known .if2 .left) _ (routed .routed .ensures) (not-true _ (c .if3 .taken))
+    unrouted (start .args .head) _ _ (start .args .e) (start .args .time) (own .if1 .left) (known .if2 .left) _ (routed .leads .ensures) (not-true _ (c .if3 .taken))
 
 minimum-requires : tie.Need-minimum-requires
 minimum-requires c κs = search needs
@@ -42,7 +42,7 @@ returns-4 c =
     let known = routed .before in
     let own = known .before .before in
     let start = own .before .before .before .before in
-    timed (start .args .head) _ _ (start .args .e) (start .args .time) (own .if1 .left) (known .if2 .left) _ (routed .routed .ensures) (not-false _ (found .if3 .left)) (minimum .minimum .result) (minimum .minimum .ensures) _ (told .least .given .1) (c .judge-tick .result) (c .judge-tick .ensures)
+    timed (start .args .head) _ _ (start .args .e) (start .args .time) (own .if1 .left) (known .if2 .left) _ (routed .leads .ensures) (not-false _ (found .if3 .left)) (minimum .minimum .result) (minimum .minimum .ensures) _ (told .least .given .1) (c .judge-tick .result) (c .judge-tick .ensures)
 
 returns-5 : tie.Need-returns-5
 returns-5 c =
@@ -52,7 +52,7 @@ returns-5 c =
     let known = routed .before in
     let own = known .before .before in
     let start = own .before .before .before .before in
-    overflow (start .args .head) _ _ (start .args .e) (start .args .time) (own .if1 .left) (known .if2 .left) _ (routed .routed .ensures) (not-false _ (found .if3 .left)) (minimum .minimum .result) (minimum .minimum .ensures) (c .enum-told .given .1)
+    overflow (start .args .head) _ _ (start .args .e) (start .args .time) (own .if1 .left) (known .if2 .left) _ (routed .leads .ensures) (not-false _ (found .if3 .left)) (minimum .minimum .result) (minimum .minimum .ensures) (c .enum-told .given .1)
 
 pub judge-spec : {M : Type 1} → statement M
 judge-spec =
@@ -60,7 +60,7 @@ judge-spec =
     (tie.spec
     returns
     returns-2
-    routed-requires
+    leads-requires
     returns-3
     minimum-requires
     enum-known-least

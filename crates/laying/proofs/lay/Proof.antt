@@ -1,5 +1,6 @@
 use borrow.Author.Needs.{needs}
 use Rattle.judging.proofs.InHand.{findable}
+use Rattle.judging.proofs.Wired.{routable}
 use Rattle.laying.proofs.Laying.{lay-refused, lay-laid}
 use Rattle.laying.proofs.lay.Statement.{statement}
 use Rattle.laying.proofs.lay.Tie as tie
@@ -29,15 +30,30 @@ returns c =
     let start = found .before .before .before .before .before .before .before in
     lay-refused (start .args .head) _ _ _ _ (start .args .mask) (start .pre .1) _ (found .find-places .ensures) _ (strange .strange-mask .ensures) (c .before .if1 .taken) _ _ (c .refuse .ensures)
 
+slice-aggregate-find-routes : tie.Need-slice-aggregate-find-routes
+slice-aggregate-find-routes c = search needs
+
+find-routes-requires : tie.Need-find-routes-requires
+find-routes-requires c κs =
+    let known = c .before in
+    let found = known .before .before .before .before in
+    let start = found .before .before .before .before .before .before .before in
+    let f = routable (start .args .head) _ _ _ _ (start .pre .1) in
+    (f .0, search needs, f .1)
+
 slice-aggregate-fill : tie.Need-slice-aggregate-fill
 slice-aggregate-fill c = search needs
+
+slice-aggregate-fill-2 : tie.Need-slice-aggregate-fill-2
+slice-aggregate-fill-2 c = search needs
 
 fill-requires : tie.Need-fill-requires
 fill-requires c κs = search needs
 
 first-failed-requires : tie.Need-first-failed-requires
 first-failed-requires c κs =
-    let known = c .before .before .before .before .before in
+    let routes = c .before .before .before .before .before .before .before in
+    let known = routes .before .before in
     let found = known .before .before .before .before in
     let start = found .before .before .before .before .before .before .before in
     findable (start .args .head) _ _ _ _ (start .pre .1)
@@ -48,11 +64,12 @@ same-length c = search needs
 returns-2 : tie.Need-returns-2
 returns-2 c =
     let fill = c .before .before .before in
-    let known = fill .before .before .before in
+    let routes = fill .before .before .before .before .before in
+    let known = routes .before .before in
     let strange = known .before in
     let found = strange .before .before .before in
     let start = found .before .before .before .before .before .before .before in
-    lay-laid (start .args .head) _ _ _ _ (start .args .mask) (start .pre .1) _ (found .find-places .ensures) _ (strange .strange-mask .ensures) (known .if1 .left) (search needs) _ (fill .fill .ensures) _ (c .first-failed .ensures)
+    lay-laid (start .args .head) _ _ _ _ (start .args .mask) (start .pre .1) _ (found .find-places .ensures) _ (strange .strange-mask .ensures) (known .if1 .left) (search needs) _ (search (fill .before .before .before .before .routes2 .given, needs)) (routes .find-routes .ensures) _ (fill .fill .ensures) _ (c .first-failed .ensures)
 
 pub lay-spec : {M : Type 1} → statement M
 lay-spec =
@@ -64,7 +81,10 @@ lay-spec =
     strange-mask-requires
     refuse-requires
     returns
+    slice-aggregate-find-routes
+    find-routes-requires
     slice-aggregate-fill
+    slice-aggregate-fill-2
     fill-requires
     first-failed-requires
     same-length

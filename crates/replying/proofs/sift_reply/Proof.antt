@@ -79,7 +79,7 @@ use Rattle.replying.proofs.sift_reply.Code.Mir as m
 
 -- how many words a desk has, and how many bytes an emission
 abbrev N : ℕ
-N = 6848
+N = 4864
 
 abbrev size : ℕ
 size = 64

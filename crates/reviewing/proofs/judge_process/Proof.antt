@@ -6,10 +6,10 @@ use Rattle.reviewing.proofs.judge_process.Statement.{statement}
 use Rattle.reviewing.proofs.judge_process.Tie as tie
 
 abbrev Inv-loop : tie.InvT-loop
-Inv-loop head edges horizons w from count p time i₀ i = Own head edges horizons w count p time from i
+Inv-loop head routes horizons w from count p time i₀ i = Own head routes horizons w count p time from i
 
 abbrev μ-loop : tie.MeasureT-loop
-μ-loop head edges horizons w from count p time i₀ i = count - i
+μ-loop head routes horizons w from count p time i₀ i = count - i
 
 loop-holds : tie.Need-loop-holds Inv-loop μ-loop
 loop-holds c = search (own-start, needs)

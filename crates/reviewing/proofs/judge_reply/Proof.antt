@@ -6,10 +6,10 @@ use Rattle.reviewing.proofs.judge_reply.Statement.{statement}
 use Rattle.reviewing.proofs.judge_reply.Tie as tie
 
 abbrev Inv-loop : tie.InvT-loop
-Inv-loop head edges horizons batch mask w count events b₀ i₀ b i = Walking head edges horizons batch mask count w b i
+Inv-loop head routes horizons batch mask w count events b₀ i₀ b i = Walking head routes horizons batch mask count w b i
 
 abbrev μ-loop : tie.MeasureT-loop
-μ-loop head edges horizons batch mask w count events b₀ i₀ b i = head .batch - b
+μ-loop head routes horizons batch mask w count events b₀ i₀ b i = head .batch - b
 
 loop-holds : tie.Need-loop-holds Inv-loop μ-loop
 loop-holds c = search (walk-start, needs)
@@ -40,7 +40,12 @@ tick-requires : tie.Need-tick-requires Inv-loop μ-loop
 tick-requires c κs = search needs
 
 judge-process-requires : tie.Need-judge-process-requires Inv-loop μ-loop
-judge-process-requires c κs = search needs
+judge-process-requires c κs =
+    let read = c .before .before .before in
+    let turn = read .before in
+    let loop = turn .before in
+    let start = loop .before .before .before .before .before in
+    (start .pre .0, start .pre .1 .reply-words, owner (start .args .head) _ _ _ _ _ _ _ _ (loop .loop .inv) (turn .loop-test .taken) _ (read .record-in .ensures) (start .pre .1 .owners))
 
 returns-2 : tie.Need-returns-2 Inv-loop μ-loop
 returns-2 c =

@@ -62,14 +62,14 @@ time-of-requires c κs =
     let s = seated _ (start .args .a) (start .args .e) _ (ill .ill-formed .ensures) (formed .if1 .left) (start .pre .2) (start .pre .0) in
     (start .pre .0, s .0, s .1, s .2)
 
-sub-edges : tie.Need-sub-edges
-sub-edges c = search needs
+sub-routes : tie.Need-sub-routes
+sub-routes c = search needs
 
-part-edges-start : tie.Need-part-edges-start
-part-edges-start c = search needs
+part-routes-start : tie.Need-part-routes-start
+part-routes-start c = search needs
 
-part-edges-end : tie.Need-part-edges-end
-part-edges-end c = search needs
+part-routes-end : tie.Need-part-routes-end
+part-routes-end c = search needs
 
 sub-horizons : tie.Need-sub-horizons
 sub-horizons c = search needs
@@ -84,8 +84,11 @@ judge-requires : tie.Need-judge-requires
 judge-requires c κs =
     let time = c .before .before .before in
     let counted = time .before .before .before .before .before .before .before in
-    let start = counted .before .before .before .before .before in
-    judgeable _ (start .args .a .head) (start .pre .0) (start .pre .2)
+    let formed = counted .before in
+    let ill = formed .before in
+    let start = ill .before .before .before in
+    let s = seated _ (start .args .a) (start .args .e) _ (ill .ill-formed .ensures) (formed .if1 .left) (start .pre .2) (start .pre .0) in
+    (judgeable _ (start .args .a .head) (start .pre .0) (start .pre .2), s .0)
 
 judged-requires-3 : tie.Need-judged-requires-3
 judged-requires-3 c κs = search needs
@@ -119,9 +122,9 @@ judge-next-spec =
     judged-requires-2
     returns-3
     time-of-requires
-    sub-edges
-    part-edges-start
-    part-edges-end
+    sub-routes
+    part-routes-start
+    part-routes-end
     sub-horizons
     part-horizons-start
     part-horizons-end
