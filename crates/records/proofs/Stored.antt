@@ -6,7 +6,7 @@ use Prim.Native.Nat.{ℕ, suc, _+_, _-_, _*_, _≤_, _<_}
 use native.Mathlib.Omega.{arith}
 use native.Mathlib.Nat.{add-zero}
 use lib.ListN.{length, getD, set, take, drop, length-append, length-take, length-drop, List·getD-append}
-use lib.Seq.{getD-take, getD-drop, getD-append-add, length-take-le, sets-eq}
+use lib.Seq.{getD-take, getD-drop, getD-append-add, length-take-le, sets-eq, set-getD}
 use Rattle.types.specs.declared.SimTime.{SimTime}
 use Rattle.types.specs.Value.{value}
 use Rattle.types.proofs.Halves.{lt-or-ge}
@@ -151,3 +151,8 @@ eight-stores w at r h =
     let e₆ : at + 6 ≡ suc (suc (suc (suc (suc (suc at))))) = omega arith in
     let e₇ : at + 7 ≡ suc (suc (suc (suc (suc (suc (suc at)))))) = omega arith in
     rw (e₁, e₂, e₃, e₄, e₅, e₆, e₇) (sets-eq (wordsOf r) w at h ∙ append-assoc (take at w) (wordsOf r) (drop (at + 8) w))
+
+-- A record stored where it was read.
+pub record-back : (w : List ℕ) (at : ℕ) → at + 8 ≤ length w → putRecord w at (recordIn w at) ≡ w
+unfolding recordIn
+record-back w at h = sym (eight-stores w at (recordIn w at) h) ∙ simp set-getD

@@ -1,11 +1,11 @@
 -- One lemma for each return and each turn of the pass, over plain variables.
 use mathlib.Core.Path.{_≡_, refl, sym, ap, _∙_}
 use mathlib.Core.Logic.{_≢_, ⊎-elim}
-use mathlib.Core.Bool.{Bool, true, false, true≢false}
+use mathlib.Core.Bool.{Bool, true, false, _&&_}
 use mathlib.Core.List.{List, [], _∷_, _++_, append-assoc, append-nil}
-use Prim.Native.Nat.{ℕ, _+_, _-_, _*_, _≤_, _<_, max}
+use Prim.Native.Nat.{ℕ, _+_, _-_, _*_, _≤_, _<_}
 use native.Mathlib.Omega.{arith}
-use lib.Dec.{leb, ltb}
+use lib.Dec.{ltb}
 use lib.ListN.{length, getD}
 use borrow.Author.Tests.{le-leb, lt-leb, lt-ltb}
 use Rattle.types.specs.declared.SimTime.{SimTime}
@@ -13,72 +13,98 @@ use Rattle.types.specs.Value.{value}
 use Rattle.types.proofs.Halves.{lt-or-ge}
 use Rattle.rules.specs.State.{Event}
 use Rattle.rules.specs.Step.{Taken}
-use Rattle.words.specs.Words.{tab}
+use Rattle.rules.proofs.Tests.{not-both}
+use Rattle.words.specs.Words.{tab, tickAt}
 use Rattle.words.proofs.Tab.{tab-cong, tab-push, tab-next, tab-none}
 use Rattle.records.specs.declared.Record.{Record}
 use Rattle.records.specs.Records.{eventOf, recordIn, putRecord, eventAt, eventsOf}
-use Rattle.records.proofs.Stored.{event-same, event-other, word-past}
+use Rattle.records.proofs.Stored.{event-to, event-tick, event-same, event-other, word-past, record-back}
 use Rattle.taking.specs.Sweep.{takes, seenBy, sweep}
 use Rattle.taking.specs.Passing.{frontAt, Owners, SameFrom, Siftable, Sifted, Took}
 use Rattle.taking.specs.declared.Sieve.{Sieve}
 use Rattle.taking.proofs.Sweep.{sweep-take, sweep-keep, takes-means}
 
 -- is_taken
-module _ (safe : List ℕ) (e : Record) (room seen : ℕ) where
-  pub seen-before : e .dst < seen → false ≡ takes (frontAt safe) room seen (eventOf e)
-  unfolding takes
-  seen-before h = rw (lt-leb seen (e .dst) h)
+module _ (safe : List ℕ) (to room : ℕ) where
+  pub no-room : (k : ℕ) → room ≡ 0 → false ≡ (ltb 0 room && ltb k (frontAt safe to))
+  no-room k z = rw z
 
-  pub no-room : seen ≤ e .dst → room ≡ 0 → false ≡ takes (frontAt safe) room seen (eventOf e)
-  unfolding takes
-  no-room h z = rw (le-leb seen (e .dst) h, z)
-
-  pub by-tick : (t f : SimTime) (b : Bool) → seen ≤ e .dst → (room ≡ 0 → ⊥) → value f ≡ frontAt safe (e .dst) → value t ≡ eventOf e .tick → b ≡ ltb (value t) (value f) → b ≡ takes (frontAt safe) room seen (eventOf e)
-  unfolding takes
-  by-tick t f b h z ef et eb =
+  pub by-tick : (t f : SimTime) (b : Bool) → (room ≡ 0 → ⊥) → value f ≡ frontAt safe to → b ≡ ltb (value t) (value f) → b ≡ (ltb 0 room && ltb (value t) (frontAt safe to))
+  by-tick t f b z ef eb =
       let g : 0 < room = ⊎-elim (λ (x : 0 < room). x) (λ (x : room ≤ 0). absurd (z (omega arith))) (lt-or-ge 0 room) in
-      rw (le-leb seen (e .dst) h, lt-ltb 0 room g, eb, ef, et)
+      rw (lt-ltb 0 room g, eb, ef)
+
+-- keep
+pub keep-moved : (w u : List ℕ) (i kept : ℕ) (e : Record) → e ≡ recordIn w (8 * i) → u ≡ putRecord w (8 * kept) e → u ≡ putRecord w (8 * kept) (recordIn w (8 * i))
+keep-moved w u i kept e ee eu = eu ∙ ap (putRecord w (8 * kept)) ee
+
+pub keep-here : (w : List ℕ) (i kept : ℕ) → kept ≤ i → i ≤ kept → 8 * i + 8 ≤ length w → w ≡ putRecord w (8 * kept) (recordIn w (8 * i))
+keep-here w i kept a b h = let z : kept ≡ i = omega arith in rw z (sym (record-back w (8 * i) h))
 
 -- sift
-event-is : (w : List ℕ) (i : ℕ) (e : Record) → e ≡ recordIn w (8 * i) → eventOf e ≡ eventAt w i
-unfolding eventAt
-event-is w i e p = ap eventOf p
-
-pub owner-of : (w : List ℕ) (i : ℕ) (e : Record) → e ≡ recordIn w (8 * i) → eventAt w i .destination < 64 → e .dst < 64
-owner-of w i e p h = rw (sym (event-is w i e p)) at h
-
--- An event that is taken: the next place of the batch is one of its 64.
-pub place : (i : ℕ) (safe w b : List ℕ) (s : Sieve) (e : Record) (t : Bool) → Siftable i w safe b s → e ≡ recordIn w (8 * i) → t ≡ takes (frontAt safe) (s .room) (s .seen) (eventOf e) → t ≡ true → (s .taken < 64) × (0 < s .room)
-place i safe w b s e t p ee et y =
-    let m = takes-means (frontAt safe) (s .room) (s .seen) (eventOf e) (sym et ∙ y) in
-    (omega (arith, m .0, p .taken, owner-of w i e ee (p .owner)), m .1)
-
 past : (w : List ℕ) (k : ℕ) (r : Record) → 8 * k + 8 ≤ length w → SameFrom (8 * k + 8) (putRecord w (8 * k) r) w
 unfolding SameFrom
 past w k r h j l = word-past w (8 * k) r h j l
 
-module _ (i : ℕ) (safe w b : List ℕ) (s : Sieve) (e : Record) (seen : ℕ) (ee : e ≡ recordIn w (8 * i)) (es : seen ≡ max (s .seen) (e .dst + 1)) where
-  event : eventOf e ≡ eventAt w i
-  event = event-is w i e ee
+read-back : (w : List ℕ) (i : ℕ) → eventOf (recordIn w (8 * i)) ≡ eventAt w i
+unfolding eventAt
+read-back w i = refl
 
-  seen-is : seen ≡ seenBy (s .seen) (eventAt w i)
-  seen-is = es ∙ ap (λ (x : Event). seenBy (s .seen) x) event
+module _ (i : ℕ) (safe w b : List ℕ) (s : Sieve) (m : Siftable i w safe b s) where
+  abbrev to : ℕ
+  to = getD w (8 * i) 0
 
-  pub sifted-goes : (t : Bool) (c : List ℕ) → t ≡ takes (frontAt safe) (s .room) (s .seen) (eventOf e) → t ≡ true → 8 * s .taken + 8 ≤ length b → c ≡ putRecord b (8 * s .taken) e
-      → Sifted i safe w b w c s (record { kept = s .kept; taken = s .taken + 1; room = s .room - 1; seen = seen })
-  sifted-goes t c et y h ec = record {
-    seen = seen-is;
-    goes = λ _. (refl, refl, refl, refl, rw ec (event-same b (s .taken) e h) ∙ event, λ k l. rw ec (event-other b (s .taken) k e h l), rw ec (past b (s .taken) e h));
-    stays = λ z. absurd (true≢false (sym y ∙ et ∙ ap (takes (frontAt safe) (s .room) (s .seen)) event ∙ z));
-  }
+  abbrev decided : Bool
+  decided = takes (frontAt safe) (s .room) (s .seen) (eventAt w i)
 
-  pub sifted-stays : (t : Bool) (u : List ℕ) → t ≡ takes (frontAt safe) (s .room) (s .seen) (eventOf e) → t ≡ false → 8 * s .kept + 8 ≤ length w → u ≡ putRecord w (8 * s .kept) e
+  pub owner : to < 64
+  owner = rw (event-to w i) at (m .owner)
+
+  -- Event i goes behind those kept.
+  stays : (u : List ℕ) (seen : ℕ) → decided ≡ false → seen ≡ seenBy (s .seen) (eventAt w i) → u ≡ putRecord w (8 * s .kept) (recordIn w (8 * i))
       → Sifted i safe w b u b s (record { kept = s .kept + 1; taken = s .taken; room = s .room; seen = seen })
-  sifted-stays t u et n h eu = record {
-    seen = seen-is;
-    goes = λ y. absurd (true≢false (sym y ∙ sym (et ∙ ap (takes (frontAt safe) (s .room) (s .seen)) event) ∙ n));
-    stays = λ _. (refl, refl, refl, refl, rw eu (event-same w (s .kept) e h) ∙ event, λ k l. rw eu (event-other w (s .kept) k e h l), rw eu (past w (s .kept) e h));
-  }
+  stays u seen n es eu =
+      let h : 8 * s .kept + 8 ≤ length w = omega (arith, m .kept, m .index, m .words) in
+      let r : Record = recordIn w (8 * i) in
+      record {
+        seen = es;
+        goes = λ y. not-both y n;
+        stays = λ _. (refl, refl, refl, refl, rw eu (event-same w (s .kept) r h) ∙ read-back w i, λ k l. rw eu (event-other w (s .kept) k r h l), rw eu (past w (s .kept) r h));
+      }
+
+  -- Its process is seen already.
+  pub sifted-seen : (u : List ℕ) → to < s .seen → u ≡ putRecord w (8 * s .kept) (recordIn w (8 * i)) → Sifted i safe w b u b s (record { kept = s .kept + 1; taken = s .taken; room = s .room; seen = s .seen })
+  unfolding takes
+  sifted-seen u h eu =
+      let n : decided ≡ false = rw (event-to w i, lt-leb (s .seen) to h) in
+      stays u (s .seen) n (omega (arith, event-to w i)) eu
+
+  -- It is not, and t is the answer of is_taken.
+  module _ (k : SimTime) (t : Bool) (h : s .seen ≤ to) (ek : value k ≡ tickAt w (8 * i + 1)) (et : t ≡ (ltb 0 (s .room) && ltb (value k) (frontAt safe to))) where
+    is-decided : decided ≡ t
+    unfolding takes
+    is-decided = rw (event-to w i, event-tick w i, le-leb (s .seen) to h, ← ek) (sym et)
+
+    seen-is : to + 1 ≡ seenBy (s .seen) (eventAt w i)
+    seen-is = omega (arith, event-to w i)
+
+    pub sifted-stays : (u : List ℕ) → t ≡ false → u ≡ putRecord w (8 * s .kept) (recordIn w (8 * i)) → Sifted i safe w b u b s (record { kept = s .kept + 1; taken = s .taken; room = s .room; seen = to + 1 })
+    sifted-stays u n eu = stays u (to + 1) (is-decided ∙ n) seen-is eu
+
+    -- The next place of the batch is one of its 64.
+    module _ (y : t ≡ true) where
+      pub place : (s .taken < 64) × (0 < s .room)
+      place = let g = takes-means (frontAt safe) (s .room) (s .seen) (eventAt w i) (is-decided ∙ y) in (omega (arith, owner, m .taken), g .1)
+
+      pub sifted-goes : (e : Record) (c : List ℕ) → e ≡ recordIn w (8 * i) → c ≡ putRecord b (8 * s .taken) e → Sifted i safe w b w c s (record { kept = s .kept; taken = s .taken + 1; room = s .room - 1; seen = to + 1 })
+      sifted-goes e c ee ec =
+          let l : 8 * s .taken + 8 ≤ length b = omega (arith, place .0, m .places) in
+          let z : eventOf e ≡ eventAt w i = ap eventOf ee ∙ read-back w i in
+          record {
+            seen = seen-is;
+            goes = λ _. (refl, refl, refl, refl, rw ec (event-same b (s .taken) e l) ∙ z, λ j n. rw ec (event-other b (s .taken) j e l n), rw ec (past b (s .taken) e l));
+            stays = λ n. not-both (is-decided ∙ y) n;
+          }
 
 -- take_batch: the events before i are passed.
 pub record Sifting (n : ℕ) (safe : List ℕ) (room : ℕ) (w₀ b₀ w c : List ℕ) (kept taken rest seen i : ℕ) : Type 0 where

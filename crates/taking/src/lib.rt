@@ -2,12 +2,14 @@
 //
 // proofs/Sweep.antt has the law that the pass takes what the rule takes; proofs/Taken.antt says it
 // of the words.
-use records::Record;
+use types::SimTime;
 ghost use mathlib.Core.Path.{_≡_};
-ghost use Prim.Native.Nat.{_<_, _≤_, max};
+ghost use mathlib.Core.Bool.{_&&_};
+ghost use Prim.Native.Nat.{_+_, _*_, _<_, _≤_};
+ghost use lib.Dec.{ltb};
 ghost use lib.ListN.{length};
-ghost use Rattle.records.specs.Records.{eventOf};
-ghost use Rattle.taking.specs.Sweep.{takes};
+ghost use Rattle.types.specs.Value.{value};
+ghost use Rattle.records.specs.Records.{recordIn, putRecord};
 ghost use Rattle.taking.specs.Passing.{frontAt, Owners, Siftable, Sifted, Took};
 
 // Where the pass is: how many are kept and taken, how many more may be taken, and the first process
@@ -45,52 +47,63 @@ pub fn take_batch(
     s
 }
 
-// Event i goes to the batch, or behind those kept.
+// Event i goes to the batch, or behind those kept. Where its process is seen already, no more of it
+// is read.
 fn sift(pending: &mut [u64], i: usize, safe: &[u64], batch: &mut [u64], s: Sieve) -> Sieve
     requires { ⌜ Siftable i (now pending) (now safe) (now batch) s ⌝ }
     ensures { λ r. ⌜ Sifted i (now (safe .entry)) (now (pending .entry)) (now (batch .entry)) (now (pending .exit)) (now (batch .exit)) s r ⌝ }
 {
-    let e = records::record_in(pending, 8 * i);
-    let seen = larger(s.seen, e.dst + 1);
-    if is_taken(safe, e, s.room, s.seen) {
+    let to = pending[8 * i];
+    if to < s.seen {
+        keep(pending, i, s.kept);
+        return Sieve {
+            kept: s.kept + 1,
+            taken: s.taken,
+            room: s.room,
+            seen: s.seen,
+        };
+    }
+    let t = words::tick_in(pending, 8 * i + 1);
+    if is_taken(safe, to, t, s.room) {
+        let e = records::record_in(pending, 8 * i);
         let at = s.taken;
         records::put_record(batch, 8 * at, e);
         return Sieve {
             kept: s.kept,
             taken: at + 1,
             room: s.room - 1,
-            seen: seen,
+            seen: to + 1,
         };
     }
-    let at = s.kept;
-    records::put_record(pending, 8 * at, e);
+    keep(pending, i, s.kept);
     Sieve {
-        kept: at + 1,
+        kept: s.kept + 1,
         taken: s.taken,
         room: s.room,
-        seen: seen,
+        seen: to + 1,
     }
 }
 
-// Its process is not seen yet, there is room, and its tick is below the frontier.
-fn is_taken(safe: &[u64], e: Record, room: u64, seen: u64) -> bool
-    requires { ⌜ (e .dst < 64) × (length (now safe) ≡ 128) ⌝ }
-    ensures { λ r. ⌜ r ≡ takes (frontAt (now (safe .entry))) room seen (eventOf e) ⌝ }
+// There is room, and the tick of the process's first event is below its frontier.
+fn is_taken(safe: &[u64], to: u64, t: SimTime, room: u64) -> bool
+    requires { ⌜ (to < 64) × (length (now safe) ≡ 128) ⌝ }
+    ensures { λ r. ⌜ r ≡ (ltb 0 room && ltb (value t) (frontAt (now (safe .entry)) to)) ⌝ }
 {
-    if e.dst < seen {
-        return false;
-    }
     if room == 0 {
         return false;
     }
-    let at = (2 * e.dst) as usize;
+    let at = (2 * to) as usize;
     let front = words::tick_in(safe, at);
-    let t = e.tick();
     t.lt(front)
 }
 
-fn larger(a: u64, b: u64) -> u64
-    ensures { λ r. ⌜ r ≡ max a b ⌝ }
+// Event i goes behind the first `kept`; until one is taken it stands there.
+fn keep(pending: &mut [u64], i: usize, kept: usize)
+    requires { ⌜ (kept ≤ i) × (8 * i + 8 ≤ length (now pending)) ⌝ }
+    ensures { λ _. ⌜ now (pending .exit) ≡ putRecord (now (pending .entry)) (8 * kept) (recordIn (now (pending .entry)) (8 * i)) ⌝ }
 {
-    if a < b { b } else { a }
+    if kept < i {
+        let e = records::record_in(pending, 8 * i);
+        records::put_record(pending, 8 * kept, e);
+    }
 }

@@ -1,13 +1,10 @@
 use borrow.Author.Needs.{needs}
-use Rattle.taking.proofs.Turns.{seen-before, no-room, by-tick}
+use Rattle.taking.proofs.Turns.{no-room, by-tick}
 use Rattle.taking.proofs.is_taken.Statement.{statement}
 use Rattle.taking.proofs.is_taken.Tie as tie
 
 returns : tie.Need-returns
-returns c = search (seen-before, needs)
-
-returns-2 : tie.Need-returns-2
-returns-2 c = search (no-room, needs)
+returns c = search (no-room, needs)
 
 mul-at : tie.Need-mul-at
 mul-at c = search needs
@@ -15,15 +12,11 @@ mul-at c = search needs
 tick-in-requires : tie.Need-tick-in-requires
 tick-in-requires c κs = search needs
 
-tick-requires : tie.Need-tick-requires
-tick-requires c κs = search needs
-
 lt-requires : tie.Need-lt-requires
 lt-requires c κs = search needs
 
-returns-3 : tie.Need-returns-3
-returns-3 c = search (by-tick, needs)
+returns-2 : tie.Need-returns-2
+returns-2 c = search (by-tick, needs)
 
 pub is-taken-spec : {M : Type 1} → statement M
-is-taken-spec =
-    tie.close (tie.spec returns returns-2 mul-at tick-in-requires tick-requires lt-requires returns-3)
+is-taken-spec = tie.close (tie.spec returns mul-at tick-in-requires lt-requires returns-2)

@@ -1,8 +1,49 @@
 use native.Mathlib.Omega.{arith}
 use borrow.Author.Needs.{needs}
-use Rattle.taking.proofs.Turns.{owner-of, place, sifted-goes, sifted-stays}
+use Rattle.taking.proofs.Turns.{owner, place, sifted-seen, sifted-stays, sifted-goes}
 use Rattle.taking.proofs.sift.Statement.{statement}
 use Rattle.taking.proofs.sift.Tie as tie
+
+mul-to : tie.Need-mul-to
+mul-to c = search needs
+
+mul-to-2 : tie.Need-mul-to-2
+mul-to-2 c = search needs
+
+slice-read-to : tie.Need-slice-read-to
+slice-read-to c = search needs
+
+keep-requires : tie.Need-keep-requires
+keep-requires c κs = search needs
+
+add-t18 : tie.Need-add-t18
+add-t18 c = search needs
+
+same-length : tie.Need-same-length
+same-length c = search needs
+
+returns : tie.Need-returns
+returns c =
+    let kept = c .before .before .before in
+    let seen = kept .before .before in
+    let known = seen .before in
+    let start = known .before .before .before .before .before in
+    sifted-seen _ _ _ _ (start .args .s) (start .pre) _ (seen .if1 .taken) (kept .keep .ensures)
+
+mul-tick-in : tie.Need-mul-tick-in
+mul-tick-in c = search needs
+
+add-tick-in : tie.Need-add-tick-in
+add-tick-in c = search needs
+
+tick-in-requires : tie.Need-tick-in-requires
+tick-in-requires c κs = search needs
+
+is-taken-requires : tie.Need-is-taken-requires
+is-taken-requires c κs =
+    let known = c .before .before .before in
+    let start = known .before .before .before .before .before in
+    (owner _ _ _ _ (start .args .s) (start .pre), start .pre .table)
 
 mul-record-in : tie.Need-mul-record-in
 mul-record-in c = search needs
@@ -10,110 +51,132 @@ mul-record-in c = search needs
 record-in-requires : tie.Need-record-in-requires
 record-in-requires c κs = search needs
 
-add-larger : tie.Need-add-larger
-add-larger c =
-    let made = c .before in
-    let start = made .before .before .before .before .before in
-    omega (arith, owner-of _ _ _ (made .record-in .ensures) (start .pre .owner))
-
-larger-requires : tie.Need-larger-requires
-larger-requires c κs = search needs
-
-is-taken-requires : tie.Need-is-taken-requires
-is-taken-requires c κs =
-    let made = c .before .before in
-    let start = made .before .before .before .before .before in
-    (owner-of _ _ _ (made .record-in .ensures) (start .pre .owner), start .pre .table)
-
 mul-put-record : tie.Need-mul-put-record
 mul-put-record c =
-    let then1 = c .before in
-    let asked = then1 .before in
-    let made = asked .before .before .before in
-    let start = made .before .before .before .before .before in
-    let p = place _ _ _ _ (start .args .s) _ _ (start .pre) (made .record-in .ensures) (asked .is-taken .ensures) (then1 .if1 .taken) in
+    let taken = c .before .before .before in
+    let asked = taken .before in
+    let read = asked .before in
+    let fresh = read .before .before in
+    let known = fresh .before in
+    let start = known .before .before .before .before .before in
+    let p = place _ _ _ _ (start .args .s) (start .pre) _ _ (fresh .if1 .left) (read .tick-in .ensures) (asked .is-taken .ensures) (taken .if2 .taken) in
     omega (arith, p .0)
 
 put-record-requires : tie.Need-put-record-requires
 put-record-requires c κs =
-    let then1 = c .before in
-    let asked = then1 .before in
-    let made = asked .before .before .before in
-    let start = made .before .before .before .before .before in
-    let p = place _ _ _ _ (start .args .s) _ _ (start .pre) (made .record-in .ensures) (asked .is-taken .ensures) (then1 .if1 .taken) in
+    let taken = c .before .before .before in
+    let asked = taken .before in
+    let read = asked .before in
+    let fresh = read .before .before in
+    let known = fresh .before in
+    let start = known .before .before .before .before .before in
+    let p = place _ _ _ _ (start .args .s) (start .pre) _ _ (fresh .if1 .left) (read .tick-in .ensures) (asked .is-taken .ensures) (taken .if2 .taken) in
     omega (arith, p .0, start .pre .places)
 
-add-t18 : tie.Need-add-t18
-add-t18 c =
-    let then1 = c .before .before .before .before in
-    let asked = then1 .before in
-    let made = asked .before .before .before in
-    let start = made .before .before .before .before .before in
-    let p = place _ _ _ _ (start .args .s) _ _ (start .pre) (made .record-in .ensures) (asked .is-taken .ensures) (then1 .if1 .taken) in
+add-t24 : tie.Need-add-t24
+add-t24 c =
+    let taken = c .before .before .before .before .before .before in
+    let asked = taken .before in
+    let read = asked .before in
+    let fresh = read .before .before in
+    let known = fresh .before in
+    let start = known .before .before .before .before .before in
+    let p = place _ _ _ _ (start .args .s) (start .pre) _ _ (fresh .if1 .left) (read .tick-in .ensures) (asked .is-taken .ensures) (taken .if2 .taken) in
     omega (arith, p .0)
 
-sub-t19 : tie.Need-sub-t19
-sub-t19 c =
-    let then1 = c .before .before .before .before .before in
-    let asked = then1 .before in
-    let made = asked .before .before .before in
-    let start = made .before .before .before .before .before in
-    let p = place _ _ _ _ (start .args .s) _ _ (start .pre) (made .record-in .ensures) (asked .is-taken .ensures) (then1 .if1 .taken) in
+sub-t28 : tie.Need-sub-t28
+sub-t28 c =
+    let taken = c .before .before .before .before .before .before .before in
+    let asked = taken .before in
+    let read = asked .before in
+    let fresh = read .before .before in
+    let known = fresh .before in
+    let start = known .before .before .before .before .before in
+    let p = place _ _ _ _ (start .args .s) (start .pre) _ _ (fresh .if1 .left) (read .tick-in .ensures) (asked .is-taken .ensures) (taken .if2 .taken) in
     omega (arith, p .1)
 
-same-length : tie.Need-same-length
-same-length c = search needs
+add-t29 : tie.Need-add-t29
+add-t29 c =
+    let taken = c .before .before .before .before .before .before .before in
+    let asked = taken .before in
+    let read = asked .before in
+    let fresh = read .before .before in
+    let known = fresh .before in
+    let start = known .before .before .before .before .before in
+    let p = place _ _ _ _ (start .args .s) (start .pre) _ _ (fresh .if1 .left) (read .tick-in .ensures) (asked .is-taken .ensures) (taken .if2 .taken) in
+    omega (arith, owner _ _ _ _ (start .args .s) (start .pre))
 
 same-length-2 : tie.Need-same-length-2
 same-length-2 c = search needs
-
-returns : tie.Need-returns
-returns c =
-    let then1 = c .before .before .before .before .before in
-    let asked = then1 .before in
-    let made = asked .before .before .before in
-    let start = made .before .before .before .before .before in
-    let p = place _ _ _ _ (start .args .s) _ _ (start .pre) (made .record-in .ensures) (asked .is-taken .ensures) (then1 .if1 .taken) in
-    sifted-goes _ _ _ _ (start .args .s) _ _ (made .record-in .ensures) (asked .before .larger .ensures) _ _ (asked .is-taken .ensures) (then1 .if1 .taken) (omega (arith, p .0, start .pre .places)) (c .before .before .before .put-record .ensures)
-
-mul-put-record-2 : tie.Need-mul-put-record-2
-mul-put-record-2 c = search needs
-
-put-record-requires-2 : tie.Need-put-record-requires-2
-put-record-requires-2 c κs = search needs
-
-add-t12 : tie.Need-add-t12
-add-t12 c = search needs
 
 same-length-3 : tie.Need-same-length-3
 same-length-3 c = search needs
 
 returns-2 : tie.Need-returns-2
 returns-2 c =
-    let else1 = c .before .before .before .before in
-    let asked = else1 .before in
-    let made = asked .before .before .before in
-    let start = made .before .before .before .before .before in
-    sifted-stays _ _ _ _ (start .args .s) _ _ (made .record-in .ensures) (asked .before .larger .ensures) _ _ (asked .is-taken .ensures) (else1 .if1 .left) (omega (arith, start .pre .kept, start .pre .index, start .pre .words)) (c .before .before .put-record2 .ensures)
+    let put = c .before .before .before in
+    let made = put .before .before in
+    let taken = made .before .before in
+    let asked = taken .before in
+    let read = asked .before in
+    let fresh = read .before .before in
+    let known = fresh .before in
+    let start = known .before .before .before .before .before in
+    sifted-goes _ _ _ _ (start .args .s) (start .pre) _ _ (fresh .if1 .left) (read .tick-in .ensures) (asked .is-taken .ensures) (taken .if2 .taken) _ _ (made .record-in .ensures) (put .put-record .ensures)
+
+keep-requires-2 : tie.Need-keep-requires-2
+keep-requires-2 c κs = search needs
+
+add-t10 : tie.Need-add-t10
+add-t10 c = search needs
+
+add-t13 : tie.Need-add-t13
+add-t13 c =
+    let known = c .before .before .before .before .before .before .before .before .before .before in
+    let start = known .before .before .before .before .before in
+    omega (arith, owner _ _ _ _ (start .args .s) (start .pre))
+
+same-length-4 : tie.Need-same-length-4
+same-length-4 c = search needs
+
+returns-3 : tie.Need-returns-3
+returns-3 c =
+    let kept = c .before .before .before in
+    let stays = kept .before .before in
+    let asked = stays .before in
+    let read = asked .before in
+    let fresh = read .before .before in
+    let known = fresh .before in
+    let start = known .before .before .before .before .before in
+    sifted-stays _ _ _ _ (start .args .s) (start .pre) _ _ (fresh .if1 .left) (read .tick-in .ensures) (asked .is-taken .ensures) _ (stays .if2 .left) (kept .keep2 .ensures)
 
 pub sift-spec : {M : Type 1} → statement M
 sift-spec =
     tie.close
     (tie.spec
+    mul-to
+    mul-to-2
+    slice-read-to
+    keep-requires
+    add-t18
+    same-length
+    returns
+    mul-tick-in
+    add-tick-in
+    tick-in-requires
+    is-taken-requires
     mul-record-in
     record-in-requires
-    add-larger
-    larger-requires
-    is-taken-requires
     mul-put-record
     put-record-requires
-    add-t18
-    sub-t19
-    same-length
+    add-t24
+    sub-t28
+    add-t29
     same-length-2
-    returns
-    mul-put-record-2
-    put-record-requires-2
-    add-t12
     same-length-3
-    returns-2)
+    returns-2
+    keep-requires-2
+    add-t10
+    add-t13
+    same-length-4
+    returns-3)
