@@ -23,6 +23,11 @@ changed-put w u d t f h l e eu p k =
     (λ b. let s : d ≡ p = eqb-true d p b in rw (← s) (rw (← e) (table-same w d t (omega arith))))
     (λ b. table-other w d p t (λ s. eqb-false d p b (sym s))))
 
+-- It is as it should be.
+pub changed-kept : (w : List ℕ) (d : ℕ) (f : ℕ → ℕ) → entry w d ≡ f (entry w d) → Changed d f w w
+unfolding Changed
+changed-kept w d f e p k = by-test (λ (x : ℕ). entry w p ≡ x) (λ b. let s : d ≡ p = eqb-true d p b in rw s at e) (λ b. refl)
+
 -- Process 64 and above has no place.
 pub changed-past : (w : List ℕ) (d : ℕ) (f : ℕ → ℕ) → 64 ≤ d → Changed d f w w
 unfolding Changed

@@ -1,10 +1,12 @@
 -- The two passes over records: frontiers fall edge by edge, and first ticks are noted event by event.
-use mathlib.Core.Path.{_≡_, refl, ap, _∙_}
+use mathlib.Core.Path.{_≡_, refl, sym, ap, _∙_}
 use mathlib.Core.Bool.{Bool, true, false}
 use mathlib.Core.List.{List, [], _∷_}
 use Prim.Native.Nat.{ℕ, _+_, _*_, _≤_, _<_, min}
-use lib.Dec.{eqb}
+use native.Mathlib.Omega.{arith}
+use lib.Dec.{ltb, eqb}
 use lib.ListN.{length, getD}
+use borrow.Author.Tests.{ltb-true, ltb-false}
 use Rattle.types.specs.declared.SimTime.{SimTime}
 use Rattle.types.specs.Value.{value}
 use Rattle.words.specs.Words.{tickAt, putTick, filled}
@@ -15,14 +17,22 @@ use Rattle.rules.specs.State.{Event, Edge}
 use Rattle.rules.specs.Pending.{firstOf, tickOr, firstTick}
 use Rattle.rules.specs.Frontiers.{safe}
 use Rattle.frontiers.specs.Tables.{Fronts, Lowered, Firsts, Noted}
-use Rattle.frontiers.proofs.Changing.{changed-put, changed-past, passed, Passing, passing-end}
+use Rattle.frontiers.proofs.Changing.{changed-put, changed-kept, changed-past, passed, Passing, passing-end}
 
 -- Frontiers.
 module _ (edges w : List ℕ) (i : ℕ) where
-  pub lower-yes : (u : List ℕ) (b o m : SimTime) → getD edges (4 * i + 1) 0 < 64 → length w ≡ 128 → value b ≡ tickAt edges (4 * i + 2) → value o ≡ tickAt w (2 * getD edges (4 * i + 1) 0)
-      → value m ≡ min (value b) (value o) → u ≡ putTick w (2 * getD edges (4 * i + 1) 0) m → Lowered (edgeAt edges i) w u
-  unfolding edgeAt
-  lower-yes u b o m h l eb eo em eu = changed-put w u (getD edges (4 * i + 1) 0) m (min (tickAt edges (4 * i + 2))) h l (rw (← eb, ← eo) em) eu
+  module _ (b o : SimTime) (t : Bool) (eb : value b ≡ tickAt edges (4 * i + 2)) (eo : value o ≡ tickAt w (2 * getD edges (4 * i + 1) 0)) (et : t ≡ ltb (value b) (value o)) where
+    pub lower-yes : (u : List ℕ) → getD edges (4 * i + 1) 0 < 64 → length w ≡ 128 → t ≡ true → u ≡ putTick w (2 * getD edges (4 * i + 1) 0) b → Lowered (edgeAt edges i) w u
+    unfolding edgeAt
+    lower-yes u h l y eu =
+        let m : value b ≡ min (value b) (value o) = omega (arith, ltb-true (value b) (value o) (sym et ∙ y)) in
+        changed-put w u (getD edges (4 * i + 1) 0) b (min (tickAt edges (4 * i + 2))) h l (m ∙ rw (eb, eo)) eu
+
+    pub lower-kept : t ≡ false → Lowered (edgeAt edges i) w w
+    unfolding edgeAt
+    lower-kept n =
+        let m : value o ≡ min (value b) (value o) = omega (arith, ltb-false (value b) (value o) (sym et ∙ n)) in
+        changed-kept w (getD edges (4 * i + 1) 0) (min (tickAt edges (4 * i + 2))) (rw (eb, eo) at m)
 
   pub lower-no : 64 ≤ getD edges (4 * i + 1) 0 → Lowered (edgeAt edges i) w w
   unfolding edgeAt

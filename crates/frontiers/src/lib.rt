@@ -27,7 +27,7 @@ pub fn frontiers(edges: &[u64], count: usize, top: SimTime, safe: &mut [u64])
     }
 }
 
-// The frontier of edge i's destination falls to the edge's bound.
+// The frontier of edge i's destination falls to the edge's bound, if that is lower.
 fn lower(edges: &[u64], i: usize, safe: &mut [u64])
     requires { ⌜ (4 * i + 4 ≤ length (now edges)) × (length (now safe) ≡ 128) ⌝ }
     ensures { λ _. ⌜ Lowered (edgeAt (now (edges .entry)) i) (now (safe .entry)) (now (safe .exit)) ⌝ }
@@ -37,8 +37,9 @@ fn lower(edges: &[u64], i: usize, safe: &mut [u64])
         let at = (2 * to) as usize;
         let bound = words::tick_in(edges, 4 * i + 2);
         let old = words::tick_in(safe, at);
-        let new = bound.min(old);
-        words::put_tick(safe, at, new);
+        if bound.lt(old) {
+            words::put_tick(safe, at, bound);
+        }
     }
 }
 

@@ -1,5 +1,5 @@
 use borrow.Author.Needs.{needs}
-use Rattle.frontiers.proofs.Tables.{lower-yes, lower-no}
+use Rattle.frontiers.proofs.Tables.{lower-yes, lower-kept, lower-no}
 use Rattle.frontiers.proofs.lower.Statement.{statement}
 use Rattle.frontiers.proofs.lower.Tie as tie
 
@@ -30,8 +30,8 @@ tick-in-requires c κs = search needs
 tick-in-requires-2 : tie.Need-tick-in-requires-2
 tick-in-requires-2 c κs = search needs
 
-min-requires : tie.Need-min-requires
-min-requires c κs = search needs
+lt-requires : tie.Need-lt-requires
+lt-requires c κs = search needs
 
 put-tick-requires : tie.Need-put-tick-requires
 put-tick-requires c κs = search needs
@@ -42,8 +42,14 @@ same-length c = search needs
 returns : tie.Need-returns
 returns c = search (lower-yes, needs)
 
+same-length-2 : tie.Need-same-length-2
+same-length-2 c = search needs
+
 returns-2 : tie.Need-returns-2
-returns-2 c = search (lower-no, needs)
+returns-2 c = search (lower-kept, needs)
+
+returns-3 : tie.Need-returns-3
+returns-3 c = search (lower-no, needs)
 
 pub lower-spec : {M : Type 1} → statement M
 lower-spec =
@@ -58,8 +64,10 @@ lower-spec =
     add-tick-in
     tick-in-requires
     tick-in-requires-2
-    min-requires
+    lt-requires
     put-tick-requires
     same-length
     returns
-    returns-2)
+    same-length-2
+    returns-2
+    returns-3)
