@@ -12,6 +12,7 @@ use Rattle.records.specs.Records.{edgesOf, eventsOf}
 use Rattle.rules.specs.State.{State, withFronts}
 use Rattle.rules.specs.Step.{countRaised, newEdges, nullsOf, rose}
 use Rattle.rules.proofs.Tests.{and-off}
+use Rattle.rules.proofs.Shape.{Queued}
 use Rattle.rules.proofs.Again.{advanced-once}
 use Rattle.frontiers.specs.Tables.{Fronts, Firsts}
 use Rattle.frontiers.specs.Rises.{RaisedEdges, Aimed}
@@ -35,13 +36,13 @@ pub spends-if : (h : Head) (safe first : List ℕ) (r : Bool) → h .budget ≤ 
 unfolding Spends Eligible
 spends-if h safe first r l e E P Z B t = e (edgesOf (h .edges) E) (suc (value (h .horizon))) (eventsOf (h .pending) P) (t .fronts) (t .firsts) ∙ sym (rw (le-leb (h .budget) (h .used) l))
 
-module _ (h : Head) (E P Z safe first A E′ Z′ : List ℕ) (top : SimTime) (r : Risen) (k : ℕ) (b : Bool)
+module _ (h : Head) (E Z safe first A E′ Z′ : List ℕ) (top : SimTime) (r : Risen) (k : ℕ) (b : Bool)
     (et : value top ≡ suc (value (h .horizon)))
     (ai : Aims safe first A)
-    (re : Refreshes h P Z A r Z′)
+    (re : Refreshes h first Z A r Z′)
     (ed : RaisedEdges (h .edges) A (value top) (span (h .lookahead)) E E′ k)
     (up : b ≡ (ltb 0 k || r .rose)) where
-  module _ (B : List ℕ) (t : Tabled (view h E P Z B) (suc (value (h .horizon))) safe first) where
+  module _ (P B : List ℕ) (q : Queued (h .n) (h .next) (eventsOf (h .pending) P)) (t : Tabled (view h E P Z B) (suc (value (h .horizon))) safe first) where
     s : State
     s = view h E P Z B
 
@@ -51,7 +52,7 @@ module _ (h : Head) (E P Z safe first A E′ Z′ : List ℕ) (top : SimTime) (r
 
     rises : Rises s (value (h .horizon)) r (horizonsOf (h .n) Z′)
     unfolding s
-    rises = re .rises E B aimed
+    rises = re .rises E P B q (t .firsts) aimed
 
     edges : edgesOf (h .edges) E′ ≡ newEdges s (suc (value (h .horizon)))
     unfolding s
@@ -69,6 +70,6 @@ module _ (h : Head) (E P Z safe first A E′ Z′ : List ℕ) (top : SimTime) (r
       rose = up ∙ (λ i. ltb 0 (counted i) || rises .rose i);
     }
 
-  pub advance-is : Advances h E P Z safe first (record { head = r .head; raised = k; rose = b }) E′ Z′
+  pub advance-is : Advances h E Z safe first (record { head = r .head; raised = k; rose = b }) E′ Z′
   unfolding s
   advance-is = record { head = re .head; advances = advances }

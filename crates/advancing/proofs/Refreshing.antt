@@ -13,9 +13,10 @@ use Rattle.records.specs.Records.{eventsOf}
 use Rattle.records.specs.Queue.{ticksOf}
 use Rattle.rules.specs.Refresh.{least, raised}
 use Rattle.rules.specs.Step.{aim, anyRaised, newHorizons}
-use Rattle.frontiers.specs.Tables.{entry}
+use Rattle.rules.proofs.Shape.{Queued}
+use Rattle.frontiers.specs.Tables.{entry, Firsts}
 use Rattle.frontiers.specs.Rises.{Aimed, RaisedHorizons, leastBefore}
-use Rattle.frontiers.proofs.Gathered.{gvt-is}
+use Rattle.frontiers.proofs.Gathered.{gvt-is, least-firsts}
 use Rattle.state.specs.declared.Head.{Head}
 use Rattle.state.specs.View.{view}
 use Rattle.state.specs.Heads.{withGvt}
@@ -26,22 +27,25 @@ unfolding raised
 raised-cong f g i [] e = refl
 raised-cong f g i (h ∷ hs) e = rw (e i (omega arith), raised-cong f g (suc i) hs (λ p l. e p (omega arith)))
 
-module _ (h : Head) (P Z A Z′ : List ℕ) (b : Bool) (low floor gvt : SimTime) (m : Refreshable h P Z A)
+module _ (h : Head) (F Z A Z′ : List ℕ) (b : Bool) (low floor gvt : SimTime) (m : Refreshable h F Z A)
     (up : RaisedHorizons (h .n) A Z Z′ b)
-    (lo : value low ≡ least (value (h .horizon)) (ticksOf (eventsOf (h .pending) P)))
+    (lo : value low ≡ least (value (h .horizon)) (horizonsOf (h .n) F))
     (fl : value floor ≡ leastBefore (value low) (horizonsOf (h .n) Z′))
     (gv : value gvt ≡ max (value (h .gvt)) (value floor)) where
-  module _ (E B : List ℕ) (a : Aimed (view h E P Z B) (suc (value (h .horizon))) A) where
+  module _ (E P B : List ℕ) (q : Queued (h .n) (h .next) (eventsOf (h .pending) P)) (f : Firsts (eventsOf (h .pending) P) (suc (value (h .horizon))) F) (a : Aimed (view h E P Z B) (suc (value (h .horizon))) A) where
     risen : horizonsOf (h .n) Z′ ≡ newHorizons (view h E P Z B) (suc (value (h .horizon)))
     unfolding Aimed
     risen = up .horizons ∙ raised-cong (entry A) (aim (view h E P Z B) (suc (value (h .horizon)))) 0 (horizonsOf (h .n) Z) (λ p l. a p (omega (arith, m .few, length-tab (λ i. tickAt Z (2 * i)) 0 (h .n))))
 
+    lowest : value low ≡ least (value (h .horizon)) (ticksOf (eventsOf (h .pending) P))
+    lowest = lo ∙ least-firsts (h .n) (value (h .horizon)) (eventsOf (h .pending) P) F (m .few) (q .order) (q .known) f
+
     rises : Rises (view h E P Z B) (value (h .horizon)) (record { head = withGvt h gvt; rose = b }) (horizonsOf (h .n) Z′)
     rises = record {
       horizons = risen;
-      gvt = gv ∙ ap (max (value (h .gvt))) (fl ∙ (λ i. leastBefore (lo i) (risen i))) ∙ sym (gvt-is (value (h .gvt)) (value (h .horizon)) (eventsOf (h .pending) P) _);
+      gvt = gv ∙ ap (max (value (h .gvt))) (fl ∙ (λ i. leastBefore (lowest i) (risen i))) ∙ sym (gvt-is (value (h .gvt)) (value (h .horizon)) (eventsOf (h .pending) P) _);
       rose = up .rose ∙ ap (anyRaised (horizonsOf (h .n) Z)) risen;
     }
 
-  pub refreshes : Refreshes h P Z A (record { head = withGvt h gvt; rose = b }) Z′
+  pub refreshes : Refreshes h F Z A (record { head = withGvt h gvt; rose = b }) Z′
   refreshes = record { head = refl; rises = rises }

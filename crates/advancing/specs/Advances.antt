@@ -5,20 +5,23 @@ use mathlib.Core.List.{List}
 use Prim.Native.Nat.{ℕ, suc, _*_, _^_, _-_, _≤_, _<_}
 use lib.ListN.{length}
 use Rattle.types.specs.Value.{value}
+use Rattle.records.specs.Records.{eventsOf}
 use Rattle.rules.specs.State.{State}
 use Rattle.rules.specs.Step.{spent, nullsOf, rose, advanced}
+use Rattle.rules.proofs.Shape.{Queued}
 use Rattle.frontiers.specs.Tables.{Fronts, Firsts}
 use Rattle.frontiers.specs.Rises.{Sources}
 use Rattle.state.specs.declared.Head.{Head}
 use Rattle.state.specs.View.{view}
 use Rattle.state.specs.Heads.{withGvt}
 use Rattle.advancing.specs.declared.Advanced.{Advanced}
-use Rattle.advancing.specs.Refreshes.{Refreshable}
 
-pub record Advanceable (h : Head) (edges pending horizons safe : List ℕ) : Type 0 where
-  pub refreshable : Refreshable h pending horizons safe
+pub record Advanceable (h : Head) (edges horizons safe : List ℕ) : Type 0 where
+  pub few-processes : h .n ≤ 64
   pub few : h .edges ≤ 512
   pub edge-words : length edges ≡ 2048
+  pub horizon-words : length horizons ≡ 128
+  pub aim-words : length safe ≡ 128
   pub sources : Sources (h .edges) edges
   pub horizon : value (h .horizon) < 2 ^ 128 - 1
 
@@ -48,7 +51,7 @@ pub record AdvancesTo (s : State) (horizon : ℕ) (r : Advanced) (t : State) : T
   pub raised : r .raised ≡ nullsOf s (suc horizon)
   pub rose : r .rose ≡ rose s (suc horizon)
 
--- Whatever the batch is.
-pub record Advances (h : Head) (edges pending horizons safe first : List ℕ) (r : Advanced) (edges′ horizons′ : List ℕ) : Type 0 where
+-- Whatever the pending events, as 11 lets them pass, and the batch are.
+pub record Advances (h : Head) (edges horizons safe first : List ℕ) (r : Advanced) (edges′ horizons′ : List ℕ) : Type 0 where
   pub head : r .head ≡ withGvt h (r .head .gvt)
-  pub advances : (B : List ℕ) → Tabled (view h edges pending horizons B) (suc (value (h .horizon))) safe first → AdvancesTo (view h edges pending horizons B) (value (h .horizon)) r (view (r .head) edges′ pending horizons′ B)
+  pub advances : (P B : List ℕ) → Queued (h .n) (h .next) (eventsOf (h .pending) P) → Tabled (view h edges P horizons B) (suc (value (h .horizon))) safe first → AdvancesTo (view h edges P horizons B) (value (h .horizon)) r (view (r .head) edges′ P horizons′ B)

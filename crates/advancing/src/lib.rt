@@ -37,17 +37,16 @@ pub fn one_more(horizon: SimTime) -> SimTime
 }
 
 // Local horizons rise to their aims, and GVT to the least of the horizon, all pending ticks and all
-// h - 1.
-pub fn refresh<'a>(head: Head, pending: &'a [u64], horizons: &mut [u64], aims: &'a [u64]) -> Risen
-    requires { ⌜ Refreshable head (now pending) (now horizons) (now aims) ⌝ }
-    ensures { λ r. ⌜ Refreshes head (now (pending .entry)) (now (horizons .entry)) (now (aims .entry)) r (now (horizons .exit)) ⌝ }
+// h - 1. A process's first tick is its least, so the pending ticks need not be passed once more.
+pub fn refresh<'a>(head: Head, first: &'a [u64], horizons: &mut [u64], aims: &'a [u64]) -> Risen
+    requires { ⌜ Refreshable head (now first) (now horizons) (now aims) ⌝ }
+    ensures { λ r. ⌜ Refreshes head (now (first .entry)) (now (horizons .entry)) (now (aims .entry)) r (now (horizons .exit)) ⌝ }
 {
     let n = head.n;
-    let count = head.pending;
     let horizon = head.horizon;
     let old = head.gvt;
     let rose = frontiers::raise_horizons(horizons, n, aims);
-    let low = records::least_tick(pending, count, horizon);
+    let low = frontiers::least_first(first, n, horizon);
     let floor = frontiers::least_before(horizons, n, low);
     let gvt = old.max(floor);
     let mut h = head;
@@ -97,20 +96,19 @@ fn either(a: bool, b: bool) -> bool
 pub fn advance<'a>(
     head: Head,
     edges: &mut [u64],
-    pending: &'a [u64],
     horizons: &mut [u64],
     safe: &mut [u64],
     first: &'a [u64],
 ) -> Advanced
-    requires { ⌜ Advanceable head (now edges) (now pending) (now horizons) (now safe) × (length (now first) ≡ 128) ⌝ }
-    ensures { λ r. ⌜ Advances head (now (edges .entry)) (now (pending .entry)) (now (horizons .entry)) (now (safe .entry)) (now (first .entry)) r (now (edges .exit)) (now (horizons .exit)) ⌝ }
+    requires { ⌜ Advanceable head (now edges) (now horizons) (now safe) × (length (now first) ≡ 128) ⌝ }
+    ensures { λ r. ⌜ Advances head (now (edges .entry)) (now (horizons .entry)) (now (safe .entry)) (now (first .entry)) r (now (edges .exit)) (now (horizons .exit)) ⌝ }
 {
     let count = head.edges;
     let lookahead = head.lookahead;
     let horizon = head.horizon;
     let top = one_more(horizon);
     aiming::aims(safe, first);
-    let risen = refresh(head, pending, horizons, safe);
+    let risen = refresh(head, first, horizons, safe);
     let raised = frontiers::raise_edges(edges, count, safe, top, lookahead);
     let rose = either(0 < raised, risen.rose);
     let h = risen.head;

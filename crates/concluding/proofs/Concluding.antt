@@ -5,6 +5,7 @@ use mathlib.Core.List.{List}
 use Prim.Native.Nat.{ℕ, suc, max}
 use Rattle.types.specs.Value.{value}
 use Rattle.words.specs.Words.{horizonsOf}
+use Rattle.records.specs.Records.{eventsOf}
 use Rattle.rules.specs.Base.{if_then_else_}
 use Rattle.rules.specs.State as R
 use Rattle.rules.specs.State.{State, raise, closed, withFronts}
@@ -13,6 +14,7 @@ use Rattle.rules.specs.Rows.{out}
 use Rattle.rules.specs.Refresh.{refreshed}
 use Rattle.rules.specs.Step.{spent}
 use Rattle.rules.proofs.Again.{refreshed-once}
+use Rattle.rules.proofs.Shape.{Queued}
 use Rattle.aiming.specs.Aims.{Aims}
 use Rattle.state.specs.declared.Head.{Head}
 use Rattle.state.specs.declared.Counters.{Counters}
@@ -55,22 +57,22 @@ module _ (h : Head) (c : Counters) (E Q Z S F : List ℕ) (u : Bool) (tb : Table
   spent-is B b e = sym (sp E Q Z B (tabled B)) ∙ e
 
   pub concludes-spent : u ≡ true → Concludes h c E Q Z (record { answer = P.EventBudgetExceeded (h .budget); head = closedHead h; counters = c }) Z
-  concludes-spent e = record { gives = λ B. sym (concluded-spent (view h E Q Z B) (countersOf c) (value (h .horizon)) (h .budget) (spent-is B true e)); moves = λ es. spent-moves (h .budget) }
+  concludes-spent e = record { gives = λ B q. sym (concluded-spent (view h E Q Z B) (countersOf c) (value (h .horizon)) (h .budget) (spent-is B true e)); moves = λ es. spent-moves (h .budget) }
 
-  module _ (e : u ≡ false) (K Z′ : List ℕ) (r : Risen) (ai : Aims S F K) (re : Refreshes h Q Z K r Z′) where
-    rises : (B : List ℕ) → Rises (view h E Q Z B) (value (h .horizon)) r (horizonsOf (h .n) Z′)
+  module _ (e : u ≡ false) (K Z′ : List ℕ) (r : Risen) (ai : Aims S F K) (re : Refreshes h F Z K r Z′) where
+    rises : (B : List ℕ) → Queued (h .n) (h .next) (eventsOf (h .pending) Q) → Rises (view h E Q Z B) (value (h .horizon)) r (horizonsOf (h .n) Z′)
     unfolding Aims
-    rises B = re .rises E B (ai (view h E Q Z B) (suc (value (h .horizon))) (tabled B .fronts) (tabled B .firsts))
+    rises B q = re .rises E Q B q (tabled B .firsts) (ai (view h E Q Z B) (suc (value (h .horizon))) (tabled B .fronts) (tabled B .firsts))
 
-    state : (B : List ℕ) → view (r .head) E Q Z′ B ≡ refreshed (view h E Q Z B) (value (h .horizon)) (view h E Q Z B .edges) (view h E Q Z B .edges) (view h E Q Z B .horizons)
-    state B =
+    state : (B : List ℕ) → Queued (h .n) (h .next) (eventsOf (h .pending) Q) → view (r .head) E Q Z′ B ≡ refreshed (view h E Q Z B) (value (h .horizon)) (view h E Q Z B .edges) (view h E Q Z B .edges) (view h E Q Z B .horizons)
+    state B q =
         ap (λ (x : Head). view x E Q Z′ B) (re .head)
-        ∙ (λ i. withFronts (view h E Q Z B) (view h E Q Z B .edges) (rises B .horizons i) (rises B .gvt i))
+        ∙ (λ i. withFronts (view h E Q Z B) (view h E Q Z B .edges) (rises B q .horizons i) (rises B q .gvt i))
         ∙ sym (refreshed-once (view h E Q Z B) (value (h .horizon)))
 
     pub concludes-committed : Concludes h c E Q Z (record { answer = P.Committed (r .head .gvt); head = r .head; counters = c }) Z′
     concludes-committed = record {
-      gives = λ B. (λ i. out (A.Committed (state B i .gvt)) (state B i) (countersOf c))
+      gives = λ B q. (λ i. out (A.Committed (state B q i .gvt)) (state B q i) (countersOf c))
           ∙ sym (concluded-fresh (view h E Q Z B) (countersOf c) (value (h .horizon)) (h .budget) (spent-is B false e));
       moves = λ es. committed-moves (value (r .head .gvt));
     }

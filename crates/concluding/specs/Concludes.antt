@@ -14,6 +14,7 @@ use Rattle.rules.specs.Rows.{Out, out}
 use Rattle.rules.specs.Refresh.{refreshed}
 use Rattle.rules.specs.Step.{spent}
 use Rattle.rules.specs.HandBack.{Emission, isRemote, countRound}
+use Rattle.rules.proofs.Shape.{Queued}
 use Rattle.state.specs.declared.Head.{Head}
 use Rattle.state.specs.declared.Counters.{Counters}
 use Rattle.state.specs.declared.Answer.{Answer}
@@ -44,7 +45,8 @@ pub record Concludable (h : Head) (edges pending horizons : List ℕ) : Type 0 w
   pub horizon-words : length horizons ≡ 128
   pub horizon : value (h .horizon) < 2 ^ 128 - 1
 
--- Whatever the batch's words are; and the answer is none that leaves the state as given.
+-- Whatever the batch's words are, where the pending events are as 11 lets them pass; and the answer is none that leaves the state as given.
 pub record Concludes (h : Head) (c : Counters) (edges pending horizons : List ℕ) (r : After) (horizons′ : List ℕ) : Type 0 where
-  pub gives : (B : List ℕ) → out (answerOf (eventsOf (r .head .batch) B) (r .answer)) (view (r .head) edges pending horizons′ B) (countersOf (r .counters)) ≡ concluded (view h edges pending horizons B) (countersOf c) (value (h .horizon)) (h .budget)
+  pub gives : (B : List ℕ) → Queued (h .n) (h .next) (eventsOf (h .pending) pending)
+      → out (answerOf (eventsOf (r .head .batch) B) (r .answer)) (view (r .head) edges pending horizons′ B) (countersOf (r .counters)) ≡ concluded (view h edges pending horizons B) (countersOf c) (value (h .horizon)) (h .budget)
   pub moves : (es : List Event) → unmoved (answerOf es (r .answer)) ≡ false

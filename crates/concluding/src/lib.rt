@@ -70,7 +70,7 @@ pub fn conclude<'a>(
         };
     }
     aiming::aims(&mut safe, &first);
-    let risen = advancing::refresh(head, pending, horizons, &safe);
+    let risen = advancing::refresh(head, &first, horizons, &safe);
     let h = risen.head;
     let gvt = h.gvt;
     After {

@@ -11,6 +11,7 @@ ghost use lib.ListN.{length, getD};
 ghost use Rattle.types.specs.Value.{value, span};
 ghost use Rattle.words.specs.Words.{horizonsOf};
 ghost use Rattle.records.specs.Records.{edgeAt, edgesOf, eventAt, eventsOf};
+ghost use Rattle.rules.specs.Refresh.{least};
 ghost use Rattle.frontiers.specs.Tables.{Fronts, Lowered, Firsts, Noted, capped};
 ghost use Rattle.frontiers.specs.Rises.{RaisedHorizon, RaisedHorizons, RaisedEdge, RaisedEdges, Sources, leastBefore};
 
@@ -163,6 +164,21 @@ pub fn least_before(horizons: &[u64], n: usize, cap: SimTime) -> SimTime
     while i < n {
         let h = words::tick_in(horizons, 2 * i);
         let t = h.one_less();
+        low = low.min(t);
+        i += 1;
+    }
+    low
+}
+
+// The least of cap and the first n ticks of a table.
+pub fn least_first(first: &[u64], n: usize, cap: SimTime) -> SimTime
+    requires { ⌜ 2 * n ≤ length (now first) ⌝ }
+    ensures { λ r. ⌜ value r ≡ least (value cap) (horizonsOf n (now (first .entry))) ⌝ }
+{
+    let mut low = cap;
+    let mut i: usize = 0;
+    while i < n {
+        let t = words::tick_in(first, 2 * i);
         low = low.min(t);
         i += 1;
     }

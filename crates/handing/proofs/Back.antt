@@ -1,6 +1,6 @@
 -- What each return of hand back gives.
 use mathlib.Core.Path.{_≡_, refl, sym, ap, _∙_}
-use mathlib.Core.Bool.{Bool, true, false, not}
+use mathlib.Core.Bool.{Bool, true, false, not, true≢false}
 use mathlib.Core.List.{List, []}
 use Prim.Native.Nat.{ℕ, _*_, _/_, _≤_, _<_}
 use native.Mathlib.Omega.{arith}
@@ -13,9 +13,13 @@ use Rattle.rules.specs.State.{Event, State, poison}
 use Rattle.rules.specs.Answers as A
 use Rattle.rules.specs.Rows.{unless, Out, out, refuse}
 use Rattle.rules.specs.Foreign.{foreign}
-use Rattle.rules.specs.HandBack.{Emission, malformed, processRows, backRows, lose, commitAt, handBack}
+use Rattle.rules.specs.History as H
+use Rattle.rules.specs.HandBack.{Emission, malformed, processRows, backRows, messages, lose, commitAt, handBack}
 use Rattle.rules.proofs.Tests.{not-both}
-use Rattle.rules.proofs.Table.{unless-append}
+use Rattle.rules.proofs.Lists.{All}
+use Rattle.rules.proofs.Table.{none-decides, unless-append}
+use Rattle.rules.proofs.Shape.{shaped}
+use Rattle.rules.proofs.ShapeCalls.{Fit, fits}
 use Rattle.edges.specs.Routes.{Routes}
 use Rattle.replies.specs.Emissions.{emissionsOf}
 use Rattle.replies.specs.Replies.{Owners, Places, Malformed}
@@ -127,9 +131,17 @@ module _ (h : Head) (c : Counters) (E Q Z B : List ℕ) (mask : ℕ) (xs : List 
           kept = λ es x. not-both x (lost u es);
         })
 
+        -- Where no row decides, the emissions may be queued.
+        fitting : v .sound ≡ true → All (Fit (h .n)) (messages xs)
+        unfolding H.refused
+        fitting u =
+            let s : State = view h E Q Z B in
+            let a : Out = out (A.Committed 0) s (countersOf c) in
+            fits s mask xs (shaped s (l .passes)) e (none-decides (processRows s mask xs (s .batch)) (lose s (countersOf c)) a (λ r z. true≢false (ap (λ (o : Out). H.refused (o .answer)) z)) (verdict .passed u (lose s (countersOf c)) a))
+
         pub back-settled : v .sound ≡ true → (r : After) (Q′ Z′ B′ : List ℕ) → Settles h c E Q Z B xs r Q′ Z′ B′ → HandsBack h c E Q Z B mask xs r Q′ Z′ B′
         back-settled u r Q′ Z′ B′ d = record {
-          gives = d .gives ∙ sym (judged (view h E Q Z B) (countersOf c) mask xs (l .passes) p held e
+          gives = d .gives (fitting u) ∙ sym (judged (view h E Q Z B) (countersOf c) mask xs (l .passes) p held e
               ∙ verdict .passed u (lose (view h E Q Z B) (countersOf c)) (settled (view h E Q Z B) (countersOf c) xs));
           kept = λ es x. not-both x (d .moves es);
         }

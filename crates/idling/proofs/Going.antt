@@ -11,6 +11,7 @@ use Rattle.rules.specs.Answers as A
 use Rattle.rules.specs.Rows.{out}
 use Rattle.rules.specs.Step.{spent, rose, countAdvance}
 use Rattle.rules.proofs.Outcomes.{run-spent, run-rise, run-finish}
+use Rattle.rules.proofs.Shape.{shaped}
 use Rattle.frontiers.specs.Tables.{Fronts, Firsts}
 use Rattle.state.specs.declared.Head.{Head}
 use Rattle.state.specs.declared.Counters.{Counters}
@@ -20,7 +21,7 @@ use Rattle.state.specs.Heads.{closedHead}
 use Rattle.state.proofs.Moves.{spent-moves, advanced-moves, finished-moves}
 use Rattle.advancing.specs.declared.Advanced.{Advanced}
 use Rattle.advancing.specs.Advances.{Tabled, Spends, AdvancesTo, Advances}
-use Rattle.idling.specs.Idles.{GoesOn}
+use Rattle.idling.specs.Idles.{Idle, GoesOn}
 
 module _ (h : Head) (c : Counters) (E Q Z S F : List ℕ) (top : SimTime) (u : Bool)
     (et : value top ≡ suc (value (h .horizon)))
@@ -37,14 +38,14 @@ module _ (h : Head) (c : Counters) (E Q Z S F : List ℕ) (top : SimTime) (u : B
   pub goes-spent : u ≡ true → GoesOn h c E Q Z S (record { answer = P.EventBudgetExceeded (h .budget); head = closedHead h; counters = c }) E Z
   goes-spent e = record { gives = λ B f i. sym (run-spent (view h E Q Z B) (countersOf c) (value (h .horizon)) (h .budget) (i .none-taken) (spent-is B f true e)); moves = λ es. spent-moves (h .budget) }
 
-  module _ (e : u ≡ false) (E′ Z′ : List ℕ) (r : Advanced) (ad : Advances h E Q Z S F r E′ Z′) where
-    to : (B : List ℕ) → Fronts (edgesOf (h .edges) E) (suc (value (h .horizon))) S → AdvancesTo (view h E Q Z B) (value (h .horizon)) r (view (r .head) E′ Q Z′ B)
-    to B f = ad .advances B (tabled B f)
+  module _ (e : u ≡ false) (E′ Z′ : List ℕ) (r : Advanced) (ad : Advances h E Z S F r E′ Z′) where
+    to : (B : List ℕ) → Fronts (edgesOf (h .edges) E) (suc (value (h .horizon))) S → Idle (view h E Q Z B) (value (h .horizon)) (h .budget) → AdvancesTo (view h E Q Z B) (value (h .horizon)) r (view (r .head) E′ Q Z′ B)
+    to B f i = ad .advances Q B (shaped (view h E Q Z B) (i .steps .passes) .queued) (tabled B f)
 
     pub goes-up : (k : Counters) → r .rose ≡ true → countersOf k ≡ countAdvance (countersOf c) (r .raised) → GoesOn h c E Q Z S (record { answer = P.Advanced (r .head .gvt); head = r .head; counters = k }) E′ Z′
     goes-up k up ek = record {
       gives = λ B f i.
-          let a = to B f in
+          let a = to B f i in
           let n : countersOf k ≡ countAdvance (countersOf c) _ = ek ∙ ap (countAdvance (countersOf c)) (a .raised) in
           (λ j. out (A.Advanced (a .state j .gvt)) (a .state j) (n j))
           ∙ sym (run-rise (view h E Q Z B) (countersOf c) (value (h .horizon)) (h .budget) (i .none-taken) (spent-is B f false e) (sym (a .rose) ∙ up));
@@ -54,7 +55,7 @@ module _ (h : Head) (c : Counters) (E Q Z S F : List ℕ) (top : SimTime) (u : B
     pub goes-finished : r .rose ≡ false → GoesOn h c E Q Z S (record { answer = P.Finished (r .head .gvt); head = closedHead (r .head); counters = c }) E′ Z′
     goes-finished up = record {
       gives = λ B f i.
-          let a = to B f in
+          let a = to B f i in
           (λ j. out (A.Finished (a .state j .gvt)) (closed (a .state j)) (countersOf c))
           ∙ sym (run-finish (view h E Q Z B) (countersOf c) (value (h .horizon)) (h .budget) (record { steps = i .steps; none-taken = i .none-taken; not-spent = spent-is B f false e }) (sym (a .rose) ∙ up));
       moves = λ es. finished-moves (value (r .head .gvt));

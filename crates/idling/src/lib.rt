@@ -5,6 +5,8 @@ use state::Answer;
 use state::Counters;
 use state::Head;
 ghost use mathlib.Core.Path.{_≡_};
+ghost use Prim.Native.Nat.{_*_, _≤_};
+ghost use lib.ListN.{length};
 ghost use Rattle.rules.specs.Step.{countAdvance};
 ghost use Rattle.state.specs.View.{countersOf};
 ghost use Rattle.advancing.specs.Advances.{Advanceable};
@@ -30,7 +32,7 @@ pub fn go_on(
     horizons: &mut [u64],
     safe: &mut [u64],
 ) -> After
-    requires { ⌜ Advanceable head (now edges) (now pending) (now horizons) (now safe) ⌝ }
+    requires { ⌜ Advanceable head (now edges) (now horizons) (now safe) × (8 * head .pending ≤ length (now pending)) ⌝ }
     ensures { λ r. ⌜ GoesOn head counters (now (edges .entry)) (now (pending .entry)) (now (horizons .entry)) (now (safe .entry)) r (now (edges .exit)) (now (horizons .exit)) ⌝ }
 {
     let count = head.pending;
@@ -47,7 +49,7 @@ pub fn go_on(
             counters: counters,
         };
     }
-    let advanced = advancing::advance(head, edges, pending, horizons, safe, &first);
+    let advanced = advancing::advance(head, edges, horizons, safe, &first);
     let mut h = advanced.head;
     let gvt = h.gvt;
     if advanced.rose {

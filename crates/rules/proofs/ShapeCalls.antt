@@ -14,10 +14,11 @@ use Rattle.rules.specs.Pending.{joins, insert, queue}
 use Rattle.rules.specs.Foreign.{badEdges, atTop, isUnset, byProcess}
 use Rattle.rules.specs.Refresh.{raised, refreshed}
 use Rattle.rules.specs.Step.{take, takenAt, raisedEdges, newHorizons, advanced}
-use Rattle.rules.specs.HandBack.{Emission, processRows, messages, handled}
+use Rattle.rules.specs.HandBack.{Emission, malformed, processRows, messages, handled}
 use Rattle.rules.specs.Calls.{Call, AddInitial, Begin, Step, HandBack, rule}
 use Rattle.rules.proofs.Tests.{by-bool, and-off, and-other, not-false, not-both}
 use Rattle.rules.proofs.Lists.{All, all-map, all-mapped, all-front, all-rest, empty-nil}
+use Rattle.rules.proofs.Table.{Passed}
 use Rattle.rules.proofs.Cases.{InitialPassed, by-initial, BeginPassed, by-begin, Steps, by-step, Commits, by-back}
 use Rattle.rules.proofs.Shape.{Short, Known, Joined, Sized, Wired, Queued, Held, Runs, Shaped}
 use Rattle.rules.proofs.Tally.{length-insert, length-messages, take-shorter}
@@ -132,6 +133,13 @@ idle-empty s w r = empty-nil (s .batch) (by-bool (nonEmpty (s .batch)) (λ t. no
 pub batch-runs : (s : State) → Shaped s → nonEmpty (s .batch) ≡ true → s .running ≡ true
 batch-runs s w b = not-false (s .running) (and-other (nonEmpty (s .batch)) (not (s .running)) b (w .runs .opened))
 
+-- What 26 and 28 to 33 let pass may be queued.
+pub fits : (s : State) (mask : ℕ) (xs : List Emission) → Shaped s → malformed (s .batch) mask xs ≡ false → Passed (processRows s mask xs (s .batch)) → All (Fit (s .n)) (messages xs)
+fits s mask xs w m p =
+    all-mapped (Fit (s .n)) (λ (x : Emission). x .message) xs
+    (each-emission (λ x. Fit (s .n) (x .message)) (Known (s .n)) s mask xs m p (w .held .known)
+    (λ b x k e r t l. record { source = let z : x .message .source ≡ b .destination = r .own ∙ e in omega (arith, k .destination); destination = r .known; payload = l }))
+
 module _ (s : State) (c : Counters) (w : Shaped s) where
   shape-initial : (m : Message) → InitialPassed s m → Shaped (withPending s (insert (numbered m (s .next)) (s .pending)) (suc (s .next)))
   shape-initial m i = record {
@@ -171,12 +179,6 @@ module _ (s : State) (c : Counters) (w : Shaped s) where
     runs = w .runs;
   }
 
-  fits : (mask : ℕ) (xs : List Emission) (h b : ℕ) → Commits s mask xs h b → All (Fit (s .n)) (messages xs)
-  fits mask xs h b i =
-      all-mapped (Fit (s .n)) (λ (x : Emission). x .message) xs
-      (each-emission (λ x. Fit (s .n) (x .message)) (Known (s .n)) s mask xs (i .reply .formed) (all-front (λ (r : Row). r .test ≡ false) (processRows s mask xs (s .batch)) _ (i .passed)) (w .held .known)
-      (λ b x k e r t l. record { source = let z : x .message .source ≡ b .destination = r .own ∙ e in omega (arith, k .destination); destination = r .known; payload = l }))
-
   few-enough : (mask : ℕ) (xs : List Emission) (h b : ℕ) → Commits s mask xs h b → length (s .pending) + length xs ≤ 512
   few-enough mask xs h b i = let z = all-rest (λ (r : Row). r .test ≡ false) (processRows s mask xs (s .batch)) _ (i .passed) in ltb-false 512 (length (s .pending) + length xs) (z .1 .0)
 
@@ -184,7 +186,7 @@ module _ (s : State) (c : Counters) (w : Shaped s) where
   shape-handled mask xs h b i = record {
     sized = w .sized;
     wired = w .wired;
-    queued = rw (length-messages xs) at (queued-all (s .n) (s .next) (s .pending) (messages xs) (fits mask xs h b i) (omega (arith, few-enough mask xs h b i, length-messages xs)) (w .queued));
+    queued = rw (length-messages xs) at (queued-all (s .n) (s .next) (s .pending) (messages xs) (fits s mask xs w (i .reply .formed) (all-front (λ (r : Row). r .test ≡ false) (processRows s mask xs (s .batch)) _ (i .passed))) (omega (arith, few-enough mask xs h b i, length-messages xs)) (w .queued));
     held = held-none (s .n);
     runs = runs-empty (s .stored) (s .running) (w .runs .below) (w .runs .stored);
   }

@@ -5,7 +5,7 @@ use mathlib.Core.List.{List, [], _∷_, _++_}
 use Rattle.rules.specs.Answers.{Refusal}
 use Rattle.rules.specs.Rows.{Row, unless}
 use Rattle.rules.proofs.Tests.{by-test}
-use Rattle.rules.proofs.Lists.{All}
+use Rattle.rules.proofs.Lists.{All, all-of}
 
 -- No row's test holds.
 abbrev pub Passed : List Row → Type 0
@@ -29,6 +29,10 @@ firsts-append Q (r ∷ rs) ts i j = (i .0, λ e. firsts-append Q rs ts (i .1 e) 
 pub firsts-all : (Q : Refusal → Type 0) (rs : List Row) → All (λ (r : Row). Q (r .refusal)) rs → Firsts Q rs
 firsts-all Q [] i = tt
 firsts-all Q (r ∷ rs) i = ((λ _. i .0), λ _. firsts-all Q rs (i .1))
+
+-- Where what is answered is no refusal, no row's test holds.
+pub none-decides : {A : Type 0} (rs : List Row) (f : Refusal → A) (a : A) → ((r : Refusal) → f r ≡ a → ⊥) → unless rs f a ≡ a → Passed rs
+none-decides rs f a n e = by-firsts (λ x. x ≡ a → Passed rs) rs f a (firsts-all (λ r. f r ≡ a → Passed rs) rs (all-of (λ (r : Row). f (r .refusal) ≡ a → Passed rs) (λ r z. absurd (n (r .refusal) z)) rs)) (λ p z. p) e
 
 -- The rows ts decide where none of the rows rs does.
 pub unless-append : {A : Type 0} (rs ts : List Row) (f : Refusal → A) (a : A) → unless (rs ++ ts) f a ≡ unless rs f (unless ts f a)

@@ -18,6 +18,11 @@ use Rattle.rules.specs.Answers as A
 use Rattle.rules.specs.Rows.{unless}
 use Rattle.rules.specs.Pending.{queue}
 use Rattle.rules.specs.HandBack.{Emission, messages, isRemote, countRound, handled, commit, commitAt, lose}
+use Rattle.rules.proofs.Lists.{All}
+use Rattle.rules.proofs.Shape as Shape
+use Rattle.rules.proofs.Shape.{shaped}
+use Rattle.rules.proofs.ShapeCalls.{Fit, queued-all}
+use Rattle.rules.proofs.Tally.{length-messages}
 use Rattle.replies.specs.Emissions.{emissionAt, emissionsOf}
 use Rattle.queueing.specs.Queued.{Queueable, Queued}
 use Rattle.state.specs.declared.Head.{Head}
@@ -88,7 +93,7 @@ concludable h E Q Z B k m hand b Q′ g u e z =
 module _ (h : Head) (c : Counters) (E Q Z B : List ℕ) (xs : List Emission) (k : ℕ) (n : length xs ≡ k) (m : Lent h E Q Z B) (hand : 0 < h .batch) where
   pub settle-late : (r : After) (B′ : List ℕ) → 18446744073709551615 - h .next < k → Loses P.EventSequenceOverflow h c r → Settles h c E Q Z B xs r Q Z B′
   unfolding tab
-  settle-late r B′ l e = rw e (record { gives = sym (row-19 (view h E Q Z B) (countersOf c) xs (lt-ltb most (h .next + length xs) (omega (arith, n)))); moves = λ es. overflow-moves })
+  settle-late r B′ l e = rw e (record { gives = λ _. sym (row-19 (view h E Q Z B) (countersOf c) xs (lt-ltb most (h .next + length xs) (omega (arith, n)))); moves = λ es. overflow-moves })
 
   module _ (a : k ≤ 18446744073709551615 - h .next) (o : h .next ≤ 18446744073709551615) where
     in-time : ltb most (h .next + length xs) ≡ false
@@ -101,7 +106,7 @@ module _ (h : Head) (c : Counters) (E Q Z B : List ℕ) (xs : List Emission) (k 
     unfolding tab
     settle-full r B′ l e =
         rw e (record {
-          gives = sym (row-18 (view h E Q Z B) (countersOf c) xs in-time
+          gives = λ _. sym (row-18 (view h E Q Z B) (countersOf c) xs in-time
               (lt-ltb most-pending (length (eventsOf (h .pending) Q) + length xs) (omega (arith, n, length-tab (eventAt Q) 0 (h .pending)))));
           moves = λ es. full-moves;
         })
@@ -113,6 +118,14 @@ module _ (h : Head) (c : Counters) (E Q Z B : List ℕ) (xs : List Emission) (k 
       runs : h .running ≡ true
       runs = batch-runs h E Q Z B (m .passes) (hand)
 
+      -- The events queued are such as 11 lets pass.
+      queued : (Q′ B′ : List ℕ) → All (Fit (h .n)) (messages xs) → (u : ℕ) → view (handledHead h k u) E Q′ Z B′ ≡ handled (view h E Q Z B) xs → Shape.Queued (h .n) (h .next + k) (eventsOf (h .pending + k) Q′)
+      queued Q′ B′ fit u st =
+          let q = queued-all (h .n) (h .next) (eventsOf (h .pending) Q) (messages xs) fit (omega (arith, few, n, length-messages xs, length-tab (eventAt Q) 0 (h .pending))) (shaped (view h E Q Z B) (m .passes) .queued) in
+          let e : h .next + length (messages xs) ≡ h .next + k = omega (arith, n, length-messages xs) in
+          let p : eventsOf (h .pending + k) Q′ ≡ queue (eventsOf (h .pending) Q) (h .next) (messages xs) = ap (λ (s : State). s .pending) st in
+          subst (λ (x : ℕ). Shape.Queued (h .n) x (eventsOf (h .pending + k) Q′)) e (subst (Shape.Queued (h .n) (h .next + length (messages xs))) (sym p) q)
+
       module _ (Q′ B′ : List ℕ) (g : Head) (qr : QueuesRound h Q B xs k g Q′ B′) where
         pub settle-on : (d : Counters) (remote : ℕ) (Z′ : List ℕ) (r : After) → remote ≡ count isRemote xs → Counts c (h .batch) k remote d → Concludes g d E Q′ Z r Z′ → Settles h c E Q Z B xs r Q′ Z′ B′
         unfolding Counts
@@ -122,7 +135,7 @@ module _ (h : Head) (c : Counters) (E Q Z B : List ℕ) (xs : List Emission) (k 
             let cs : countersOf d ≡ countRound (countersOf c) (eventsOf (h .batch) B) xs = ct (eventsOf (h .batch) B) xs (length-tab (eventAt B) 0 (h .batch)) n (sym er) in
             let is : view h E Q Z B .stored ≡ stored (value (h .horizon)) (h .budget) = stored-is (h .stored) (value (h .horizon)) (h .budget) (is-stored h E Q Z B (m .passes) runs) in
             record {
-              gives = co .gives B′
+              gives = λ fit. co .gives B′ (queued Q′ B′ fit (g .used) st)
                   ∙ (λ i. concluded (st i) (cs i) (value (h .horizon)) (h .budget))
                   ∙ sym (passed (view h E Q Z B) (countersOf c) xs in-time roomy (stored (value (h .horizon)) (h .budget)) is
                   ∙ commits (view h E Q Z B) (countersOf c) xs (value (h .horizon)) (h .budget));

@@ -10,7 +10,9 @@ use Rattle.rules.specs.State as R
 use Rattle.rules.specs.State.{Event, State, most, most-pending}
 use Rattle.rules.specs.Answers as A
 use Rattle.rules.specs.Rows.{Row, _⇒_, unless, Out, out}
-use Rattle.rules.specs.HandBack.{Emission, handled, commitAt, lose}
+use Rattle.rules.specs.HandBack.{Emission, messages, handled, commitAt, lose}
+use Rattle.rules.proofs.Lists.{All}
+use Rattle.rules.proofs.ShapeCalls.{Fit}
 use Rattle.state.specs.declared.Head.{Head}
 use Rattle.state.specs.declared.Counters.{Counters}
 use Rattle.state.specs.declared.After.{After}
@@ -37,6 +39,8 @@ lastRows s xs = (ltb most (s .next + length xs) ⇒ A.EventSequenceOverflow) ∷
 unfoldable pub settled : State → R.Counters → List Emission → Out
 settled s c xs = unless (lastRows s xs) (lose s c) (commitAt s c (s .stored) xs)
 
+-- Of emissions that 26 and 28 to 33 let pass.
 pub record Settles (h : Head) (c : Counters) (edges pending horizons batch : List ℕ) (xs : List Emission) (r : After) (pending′ horizons′ batch′ : List ℕ) : Type 0 where
-  pub gives : out (answerOf (eventsOf (r .head .batch) batch′) (r .answer)) (view (r .head) edges pending′ horizons′ batch′) (countersOf (r .counters)) ≡ settled (view h edges pending horizons batch) (countersOf c) xs
+  pub gives : All (Fit (h .n)) (messages xs)
+      → out (answerOf (eventsOf (r .head .batch) batch′) (r .answer)) (view (r .head) edges pending′ horizons′ batch′) (countersOf (r .counters)) ≡ settled (view h edges pending horizons batch) (countersOf c) xs
   pub moves : (es : List Event) → unmoved (answerOf es (r .answer)) ≡ false

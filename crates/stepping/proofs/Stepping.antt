@@ -114,15 +114,19 @@ module _ (h : Head) (E Q Z B : List ℕ) (l : Lent h E Q Z B) where
     known = destinations h E Q Z B (l .passes);
   }
 
-  pub advanceable : (Q′ B′ S : List ℕ) (g : Head) → h .running ≡ true → HandsOut h Q S B g Q′ B′ → g .batch ≤ 0 → length Q′ ≡ 4096 → length S ≡ 128 → Advanceable g E Q′ Z S
+  pub advanceable : (Q′ B′ S : List ℕ) (g : Head) → h .running ≡ true → HandsOut h Q S B g Q′ B′ → g .batch ≤ 0 → length Q′ ≡ 4096 → length S ≡ 128 → Advanceable g E Z S × (8 * g .pending ≤ length Q′)
   unfolding Sources
   advanceable Q′ B′ S g r ho b n m =
       let f = l .passes in
       let k : 8 * g .pending ≤ length Q′ = omega (arith, ho .none (omega arith) .0, few-pending h E Q Z B f) in
+      let a : Advanceable g E Z S =
       rw (ho .head) (record {
-        refreshable = record { few = few-processes h E Q Z B f; pending-words = k; horizon-words = l .horizon-words; aim-words = m };
+        few-processes = few-processes h E Q Z B f;
         few = few-edges h E Q Z B f;
         edge-words = l .edge-words;
+        horizon-words = l .horizon-words;
+        aim-words = m;
         sources = sources h E Q Z B f;
         horizon = below-top h E Q Z B f r;
-      })
+      }) in
+      (a, k)

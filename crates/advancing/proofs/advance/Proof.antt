@@ -18,7 +18,7 @@ raise-edges-requires c κs =
     let risen = c .before .before .before .before in
     let aims = risen .before .before .before .before .before in
     let top = aims .before .before in
-    let start = top .before .before .before .before .before .before .before .before in
+    let start = top .before .before .before .before .before .before .before in
     (start .pre .0 .few, omega (arith, start .pre .0 .few, start .pre .0 .edge-words), search needs, start .pre .0 .sources)
 
 either-requires : tie.Need-either-requires
@@ -40,8 +40,8 @@ returns c =
     let risen = edges .before .before .before .before .before in
     let aims = risen .before .before .before .before .before in
     let top = aims .before .before in
-    let start = top .before .before .before .before .before .before .before .before in
-    advance-is (start .args .head) _ _ _ _ _ _ _ _ _ (risen .refresh .result) _ _ (top .one-more .ensures) (aims .aims .ensures) (risen .refresh .ensures) (edges .raise-edges .ensures) (either .either .ensures)
+    let start = top .before .before .before .before .before .before .before in
+    advance-is (start .args .head) _ _ _ _ _ _ _ _ (risen .refresh .result) _ _ (top .one-more .ensures) (aims .aims .ensures) (risen .refresh .ensures) (edges .raise-edges .ensures) (either .either .ensures)
 
 pub advance-spec : {M : Type 1} → statement M
 advance-spec =

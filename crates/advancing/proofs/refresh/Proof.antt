@@ -6,8 +6,8 @@ use Rattle.advancing.proofs.refresh.Tie as tie
 raise-horizons-requires : tie.Need-raise-horizons-requires
 raise-horizons-requires c κs = search needs
 
-least-tick-requires : tie.Need-least-tick-requires
-least-tick-requires c κs = search needs
+least-first-requires : tie.Need-least-first-requires
+least-first-requires c κs = search needs
 
 least-before-requires : tie.Need-least-before-requires
 least-before-requires c κs = search needs
@@ -24,14 +24,14 @@ returns c =
     let low = floor .before .before in
     let up = low .before .before .before in
     let start = up .before .before .before .before .before .before .before in
-    refreshes (start .args .head) _ _ _ _ _ _ _ _ (start .pre) (up .raise-horizons .ensures) (low .least-tick .ensures) (floor .least-before .ensures) (c .max .ensures)
+    refreshes (start .args .head) _ _ _ _ _ _ _ _ (start .pre) (up .raise-horizons .ensures) (low .least-first .ensures) (floor .least-before .ensures) (c .max .ensures)
 
 pub refresh-spec : {M : Type 1} → statement M
 refresh-spec =
     tie.close
     (tie.spec
     raise-horizons-requires
-    least-tick-requires
+    least-first-requires
     least-before-requires
     max-requires
     same-length

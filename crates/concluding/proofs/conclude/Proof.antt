@@ -40,6 +40,9 @@ aims-requires c κs = search needs
 slice-aggregate-refresh : tie.Need-slice-aggregate-refresh
 slice-aggregate-refresh c = search needs
 
+slice-aggregate-refresh-2 : tie.Need-slice-aggregate-refresh-2
+slice-aggregate-refresh-2 c = search needs
+
 refresh-requires : tie.Need-refresh-requires
 refresh-requires c κs = search needs
 
@@ -49,7 +52,7 @@ same-length c = search needs
 returns-2 : tie.Need-returns-2
 returns-2 c =
     let refresh = c .before .before .before .before in
-    let aims = refresh .before .before .before .before in
+    let aims = refresh .before .before .before .before .before in
     let fresh = aims .before .before .before in
     let spends = fresh .before in
     let tables = spends .before .before .before .before .before in
@@ -71,6 +74,7 @@ conclude-spec =
     slice-aggregate-aims-2
     aims-requires
     slice-aggregate-refresh
+    slice-aggregate-refresh-2
     refresh-requires
     same-length
     returns-2)

@@ -1,14 +1,16 @@
 use borrow.Author.Needs.{needs}
 use native.Mathlib.Omega.{arith}
-use Prim.Native.Nat.{_≤_, _-_}
-use mathlib.Core.Path.{_≡_, refl}
+use Prim.Native.Nat.{ℕ, _≤_, _-_}
+use mathlib.Core.Path.{_≡_, refl, ap, _∙_}
 use Rattle.types.specs.Value.{value}
-use Rattle.frontiers.proofs.Gathered.{leastFrom, least-more, least-end}
+use Rattle.records.proofs.Gathered.{leastFrom, least-more}
+use Rattle.frontiers.specs.Tables.{entry}
+use Rattle.frontiers.proofs.Gathered.{before-end}
 use Rattle.frontiers.proofs.least_before.Statement.{statement}
 use Rattle.frontiers.proofs.least_before.Tie as tie
 
 abbrev Inv-loop : tie.InvT-loop
-Inv-loop horizons n low₀ i₀ low i = (i ≤ n) × (leastFrom horizons n (value low) i ≡ leastFrom horizons n (value low₀) 0)
+Inv-loop horizons n low₀ i₀ low i = (i ≤ n) × (leastFrom (λ j. entry horizons j - 1) n (value low) i ≡ leastFrom (λ j. entry horizons j - 1) n (value low₀) 0)
 
 abbrev μ-loop : tie.MeasureT-loop
 μ-loop horizons n low₀ i₀ low i = n - i
@@ -35,10 +37,13 @@ loop-less : tie.Need-loop-less Inv-loop μ-loop
 loop-less c = search needs
 
 loop-again : tie.Need-loop-again Inv-loop μ-loop
-loop-again c = search (least-more, needs)
+loop-again c =
+    let l = c .before .before .before .before .loop in
+    let t = c .before .one-less .ensures ∙ ap (λ (x : ℕ). x - 1) (c .before .before .tick-in .ensures) in
+    (omega arith, least-more _ _ (l .i) (l .low) _ _ _ (omega arith) (l .inv .1) t (c .min .ensures))
 
 returns : tie.Need-returns Inv-loop μ-loop
-returns c = search (least-end, needs)
+returns c = search (before-end, needs)
 
 pub least-before-spec : {M : Type 1} → statement M
 least-before-spec =
