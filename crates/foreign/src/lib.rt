@@ -136,8 +136,5 @@ pub fn is_foreign_state(state: Runtime) -> bool
     ensures { λ r. ⌜ r ≡ foreign (viewOf state) ⌝ }
 {
     let head = state.head;
-    let edges = state.edges;
-    let pending = state.pending;
-    let batch = state.batch;
-    is_foreign(head, &edges, &pending, &batch)
+    is_foreign(head, &state.edges, &state.pending, &state.batch)
 }

@@ -1,6 +1,6 @@
 // The four reads: GVT, counters, how many are pending, earliest pending tick. They check 11 and
 // nothing else, and give back no state and no counters, since these stay as given.
-use foreign::is_foreign_state;
+use foreign::is_foreign;
 use state::Counters;
 use state::Runtime;
 use types::SimTime;
@@ -19,10 +19,10 @@ pub enum ReadAnswer {
 pub fn read_gvt(state: Runtime, counters: Counters) -> ReadAnswer
     ensures { λ r. ⌜ Reads readGvt state counters r ⌝ }
 {
-    if is_foreign_state(state) {
+    let head = state.head;
+    if is_foreign(head, &state.edges, &state.pending, &state.batch) {
         return ReadAnswer::ForeignState;
     }
-    let head = state.head;
     let gvt = head.gvt;
     ReadAnswer::Gvt(gvt)
 }
@@ -30,20 +30,20 @@ pub fn read_gvt(state: Runtime, counters: Counters) -> ReadAnswer
 pub fn read_counters(state: Runtime, counters: Counters) -> ReadAnswer
     ensures { λ r. ⌜ Reads readCounters state counters r ⌝ }
 {
-    if is_foreign_state(state) {
+    let head = state.head;
+    if is_foreign(head, &state.edges, &state.pending, &state.batch) {
         return ReadAnswer::ForeignState;
     }
-    let head = state.head;
     ReadAnswer::Counted(counters, head.used)
 }
 
 pub fn read_pending(state: Runtime, counters: Counters) -> ReadAnswer
     ensures { λ r. ⌜ Reads readPending state counters r ⌝ }
 {
-    if is_foreign_state(state) {
+    let head = state.head;
+    if is_foreign(head, &state.edges, &state.pending, &state.batch) {
         return ReadAnswer::ForeignState;
     }
-    let head = state.head;
     ReadAnswer::Pending(head.pending as u64)
 }
 
@@ -51,11 +51,10 @@ pub fn read_pending(state: Runtime, counters: Counters) -> ReadAnswer
 pub fn read_earliest(state: Runtime, counters: Counters) -> ReadAnswer
     ensures { λ r. ⌜ Reads readEarliest state counters r ⌝ }
 {
-    if is_foreign_state(state) {
+    let head = state.head;
+    if is_foreign(head, &state.edges, &state.pending, &state.batch) {
         return ReadAnswer::ForeignState;
     }
-    let head = state.head;
-    let pending = state.pending;
     let largest = SimTime::largest();
-    ReadAnswer::Earliest(records::least_tick(&pending, head.pending, largest))
+    ReadAnswer::Earliest(records::least_tick(&state.pending, head.pending, largest))
 }

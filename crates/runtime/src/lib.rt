@@ -1,7 +1,7 @@
 // The runtime's calls. States and answers go in and come back by value, and no call asks anything of
 // its caller.
 use building::BuildAnswer;
-use foreign::is_foreign_state;
+use foreign::is_foreign;
 use state::Answer;
 use state::Counters;
 use state::Message;
@@ -121,56 +121,40 @@ fn foreign_state(state: Runtime, counters: Counters) -> Called
 }
 
 // Each call on a runtime is 11, then its core.
-pub fn begin(state: Runtime, counters: Counters, horizon: SimTime, budget: u64) -> Called
+pub fn begin(mut state: Runtime, counters: Counters, horizon: SimTime, budget: u64) -> Called
     ensures { λ r. ⌜ Carries (Begin (value horizon) budget) state counters (r .answer) (r .state) (r .counters) ⌝ }
 {
-    if is_foreign_state(state) {
+    let head = state.head;
+    if is_foreign(head, &state.edges, &state.pending, &state.batch) {
         return foreign_state(state, counters);
     }
-    let head = state.head;
-    let edges = state.edges;
-    let pending = state.pending;
-    let horizons = state.horizons;
-    let batch = state.batch;
     let begun = starting::begin(head, horizon, budget);
     let answer = begun.answer;
     let left = begun.head;
+    state.head = left;
     Called {
         answer: answer,
-        state: Runtime {
-            edges: edges,
-            pending: pending,
-            horizons: horizons,
-            batch: batch,
-            head: left,
-        },
+        state: state,
         counters: counters,
     }
 }
 
-pub fn add_initial(state: Runtime, counters: Counters, m: Message) -> Called
+pub fn add_initial(mut state: Runtime, counters: Counters, m: Message) -> Called
     ensures { λ r. ⌜ Carries (AddInitial (messageOf m)) state counters (r .answer) (r .state) (r .counters) ⌝ }
 {
-    if is_foreign_state(state) {
+    let head = state.head;
+    if is_foreign(head, &state.edges, &state.pending, &state.batch) {
         return foreign_state(state, counters);
     }
-    let head = state.head;
-    let edges = state.edges;
     let mut pending = state.pending;
-    let horizons = state.horizons;
-    let batch = state.batch;
-    let added = adding::add_initial(head, &edges, &mut pending, m);
+    let added = adding::add_initial(head, &state.edges, &mut pending, m);
     let answer = added.answer;
     let left = added.head;
+    state.pending = pending;
+    state.head = left;
     Called {
         answer: answer,
-        state: Runtime {
-            edges: edges,
-            pending: pending,
-            horizons: horizons,
-            batch: batch,
-            head: left,
-        },
+        state: state,
         counters: counters,
     }
 }
@@ -178,10 +162,10 @@ pub fn add_initial(state: Runtime, counters: Counters, m: Message) -> Called
 pub fn step(state: Runtime, counters: Counters) -> Called
     ensures { λ r. ⌜ Carries Step state counters (r .answer) (r .state) (r .counters) ⌝ }
 {
-    if is_foreign_state(state) {
+    let head = state.head;
+    if is_foreign(head, &state.edges, &state.pending, &state.batch) {
         return foreign_state(state, counters);
     }
-    let head = state.head;
     let mut edges = state.edges;
     let mut pending = state.pending;
     let mut horizons = state.horizons;
@@ -211,21 +195,20 @@ pub fn step(state: Runtime, counters: Counters) -> Called
 }
 
 // The reply has eight words to an emission; words that make no whole one are passed over.
-pub fn hand_back(state: Runtime, counters: Counters, mask: u64, reply: &[u64]) -> Called
+pub fn hand_back(mut state: Runtime, counters: Counters, mask: u64, reply: &[u64]) -> Called
     ensures { λ r. ⌜ Carries (HandBack mask (emissionsOf (length (now (reply .entry)) / 8) (now (reply .entry)))) state counters (r .answer) (r .state) (r .counters) ⌝ }
 {
-    if is_foreign_state(state) {
+    let head = state.head;
+    if is_foreign(head, &state.edges, &state.pending, &state.batch) {
         return foreign_state(state, counters);
     }
-    let head = state.head;
-    let edges = state.edges;
     let mut pending = state.pending;
     let mut horizons = state.horizons;
     let mut batch = state.batch;
     let handed = handing::hand_back(
         head,
         counters,
-        &edges,
+        &state.edges,
         &mut pending,
         &mut horizons,
         &mut batch,
@@ -235,15 +218,13 @@ pub fn hand_back(state: Runtime, counters: Counters, mask: u64, reply: &[u64]) -
     let answer = handed.answer;
     let left = handed.head;
     let counted = handed.counters;
+    state.pending = pending;
+    state.horizons = horizons;
+    state.batch = batch;
+    state.head = left;
     Called {
         answer: answer,
-        state: Runtime {
-            edges: edges,
-            pending: pending,
-            horizons: horizons,
-            batch: batch,
-            head: left,
-        },
+        state: state,
         counters: counted,
     }
 }

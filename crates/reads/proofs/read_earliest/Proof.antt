@@ -1,33 +1,30 @@
 use borrow.Author.Needs.{needs}
+use Rattle.foreign.proofs.Grouped.{whole}
 use Rattle.reads.proofs.Reading.{can-pass, earliest-foreign, earliest-read}
 use Rattle.reads.proofs.read_earliest.Statement.{statement}
 use Rattle.reads.proofs.read_earliest.Tie as tie
 
-is-foreign-state-requires : tie.Need-is-foreign-state-requires
-is-foreign-state-requires c κs = search needs
+is-foreign-requires : tie.Need-is-foreign-requires
+is-foreign-requires c κs = search needs
 
 returns : tie.Need-returns
-returns c = search (earliest-foreign, needs)
+returns c = search (earliest-foreign, whole, needs)
 
 largest-requires : tie.Need-largest-requires
 largest-requires c κs = search needs
 
-slice-aggregate-least-tick : tie.Need-slice-aggregate-least-tick
-slice-aggregate-least-tick c = search needs
-
 least-tick-requires : tie.Need-least-tick-requires
-least-tick-requires c κs = search (can-pass, needs)
+least-tick-requires c κs = search (can-pass, whole, needs)
 
 returns-2 : tie.Need-returns-2
-returns-2 c = search (earliest-read, needs)
+returns-2 c = search (earliest-read, whole, needs)
 
 pub read-earliest-spec : {M : Type 1} → statement M
 read-earliest-spec =
     tie.close
     (tie.spec
-    is-foreign-state-requires
+    is-foreign-requires
     returns
     largest-requires
-    slice-aggregate-least-tick
     least-tick-requires
     returns-2)

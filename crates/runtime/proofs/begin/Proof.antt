@@ -1,13 +1,14 @@
 use borrow.Author.Needs.{needs}
+use Rattle.foreign.proofs.Grouped.{whole}
 use Rattle.runtime.proofs.Carrying.{judged, carries-begin}
 use Rattle.runtime.proofs.begin.Statement.{statement}
 use Rattle.runtime.proofs.begin.Tie as tie
 
-is-foreign-state-requires : tie.Need-is-foreign-state-requires
-is-foreign-state-requires c κs = search needs
+is-foreign-requires : tie.Need-is-foreign-requires
+is-foreign-requires c κs = search needs
 
 foreign-state-requires : tie.Need-foreign-state-requires
-foreign-state-requires c κs = search (judged, needs)
+foreign-state-requires c κs = search (judged, whole, needs)
 
 returns : tie.Need-returns
 returns c = c .foreign-state .ensures _
@@ -16,14 +17,9 @@ begin-requires : tie.Need-begin-requires
 begin-requires c κs = search needs
 
 returns-2 : tie.Need-returns-2
-returns-2 c = search (carries-begin, needs)
+returns-2 c = search (carries-begin, whole, needs)
 
 pub begin-spec : {M : Type 1} → statement M
 begin-spec =
     tie.close
-    (tie.spec
-    is-foreign-state-requires
-    foreign-state-requires
-    returns
-    begin-requires
-    returns-2)
+    (tie.spec is-foreign-requires foreign-state-requires returns begin-requires returns-2)

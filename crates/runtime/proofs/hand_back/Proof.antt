@@ -1,13 +1,14 @@
 use borrow.Author.Needs.{needs}
+use Rattle.foreign.proofs.Grouped.{whole}
 use Rattle.runtime.proofs.Carrying.{judged, can-lend, carries-back}
 use Rattle.runtime.proofs.hand_back.Statement.{statement}
 use Rattle.runtime.proofs.hand_back.Tie as tie
 
-is-foreign-state-requires : tie.Need-is-foreign-state-requires
-is-foreign-state-requires c κs = search needs
+is-foreign-requires : tie.Need-is-foreign-requires
+is-foreign-requires c κs = search needs
 
 foreign-state-requires : tie.Need-foreign-state-requires
-foreign-state-requires c κs = search (judged, needs)
+foreign-state-requires c κs = search (judged, whole, needs)
 
 returns : tie.Need-returns
 returns c = c .foreign-state .ensures _
@@ -21,11 +22,8 @@ slice-aggregate-hand-back-2 c = search needs
 slice-aggregate-hand-back-3 : tie.Need-slice-aggregate-hand-back-3
 slice-aggregate-hand-back-3 c = search needs
 
-slice-aggregate-hand-back-4 : tie.Need-slice-aggregate-hand-back-4
-slice-aggregate-hand-back-4 c = search needs
-
 hand-back-requires : tie.Need-hand-back-requires
-hand-back-requires c κs = search (can-lend, needs)
+hand-back-requires c κs = search (can-lend, whole, needs)
 
 returns-2 : tie.Need-returns-2
 returns-2 c = search (carries-back, needs)
@@ -34,12 +32,11 @@ pub hand-back-spec : {M : Type 1} → statement M
 hand-back-spec =
     tie.close
     (tie.spec
-    is-foreign-state-requires
+    is-foreign-requires
     foreign-state-requires
     returns
     slice-aggregate-hand-back
     slice-aggregate-hand-back-2
     slice-aggregate-hand-back-3
-    slice-aggregate-hand-back-4
     hand-back-requires
     returns-2)

@@ -1,13 +1,14 @@
 use borrow.Author.Needs.{needs}
+use Rattle.foreign.proofs.Grouped.{whole}
 use Rattle.runtime.proofs.Carrying.{judged, can-lend, carries-step}
 use Rattle.runtime.proofs.step.Statement.{statement}
 use Rattle.runtime.proofs.step.Tie as tie
 
-is-foreign-state-requires : tie.Need-is-foreign-state-requires
-is-foreign-state-requires c κs = search needs
+is-foreign-requires : tie.Need-is-foreign-requires
+is-foreign-requires c κs = search needs
 
 foreign-state-requires : tie.Need-foreign-state-requires
-foreign-state-requires c κs = search (judged, needs)
+foreign-state-requires c κs = search (judged, whole, needs)
 
 returns : tie.Need-returns
 returns c = c .foreign-state .ensures _
@@ -25,7 +26,7 @@ slice-aggregate-step-4 : tie.Need-slice-aggregate-step-4
 slice-aggregate-step-4 c = search needs
 
 step-requires : tie.Need-step-requires
-step-requires c κs = search (can-lend, needs)
+step-requires c κs = search (can-lend, whole, needs)
 
 returns-2 : tie.Need-returns-2
 returns-2 c = search (carries-step, needs)
@@ -34,7 +35,7 @@ pub step-spec : {M : Type 1} → statement M
 step-spec =
     tie.close
     (tie.spec
-    is-foreign-state-requires
+    is-foreign-requires
     foreign-state-requires
     returns
     slice-aggregate-step
