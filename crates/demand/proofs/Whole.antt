@@ -1,5 +1,5 @@
 -- What the check proves of each function is what a link of the theorem holds.
-use mathlib.Core.Path.{_≡_, refl, ap, _∙_}
+use mathlib.Core.Path.{refl, ap, _∙_}
 use mathlib.Core.List.{List, [], _∷_, map}
 use Rattle.state.specs.declared.Runtime.{Runtime}
 use Rattle.state.specs.declared.Counters.{Counters}

@@ -2,13 +2,9 @@
 use mathlib.Core.Path.{_≡_, refl, sym, ap, subst, _∙_}
 use mathlib.Core.Bool.{Bool, true, false, not}
 use mathlib.Core.List.{List}
-use Prim.Native.Nat.{ℕ, _+_, _*_, _≤_, _<_}
+use Prim.Native.Nat.{ℕ, _≤_}
 use native.Mathlib.Omega.{arith}
-use lib.Dec.{leb}
 use lib.ListN.{length, take, length-map}
-use Rattle.rules.specs.Base.{any, rising}
-use Rattle.rules.specs.State.{Event}
-use Rattle.rules.specs.Pending.{before}
 use Rattle.rules.specs.HandBack as R
 use Rattle.rules.specs.HandBack.{malformed}
 use Rattle.rules.specs.Foreign.{foreign}
@@ -19,7 +15,6 @@ use Rattle.replies.specs.declared.Emission.{Emission}
 use Rattle.replies.specs.Emissions.{emissionOf}
 use Rattle.replies.specs.Replies.{strangeMask, anyIllFormed}
 use Rattle.replies.proofs.Judged.{malformed-in-turn}
-use Rattle.state.specs.declared.Head.{Head}
 use Rattle.state.specs.declared.Runtime.{Runtime}
 use Rattle.state.specs.declared.Counters.{Counters}
 use Rattle.state.specs.declared.After.{After}
@@ -34,7 +29,7 @@ use Rattle.sifting.specs.Desks.{routesIn, horizonsIn, batchIn, placesIn}
 use Rattle.sifting.specs.Sifts.{Seated}
 use Rattle.sifting.specs.Taken.{replyOf, inHand, Begun, Taken}
 use Rattle.sifting.proofs.Taking.{was-going}
-use Rattle.laying.specs.Lays.{Sizes, desk, refusing, Laid, Lays}
+use Rattle.laying.specs.Lays.{Sizes, refusing, Lays}
 use Rattle.laying.proofs.Filling.{horizons-there, batch-there, pending-there}
 use Rattle.handing.specs.Hands.{HandsBack}
 use Rattle.handing.proofs.Back.{back-dead, back-empty, back-malformed}

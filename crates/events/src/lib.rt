@@ -1,4 +1,4 @@
-// Events in flat words: what 11 asks of them, each in one pass; and removal.
+// Events in flat words: what 11 asks of them, each in one pass.
 //
 // These are leaves: each asks that the words it touches are there.
 use records::Record;
@@ -9,7 +9,6 @@ ghost use Rattle.rules.specs.Base.{rising};
 ghost use Rattle.rules.specs.Foreign.{byProcess};
 ghost use Rattle.records.specs.Records.{eventOf, eventsOf};
 ghost use Rattle.events.specs.Clauses.{oddEvent, oddEvents, lateEvents};
-ghost use Rattle.events.specs.Removal.{Removed};
 
 // 11: whether an event has an id that is not below n, or a payload above 16 bytes.
 pub fn odd_events(w: &[u64], count: usize, n: u64) -> bool
@@ -70,15 +69,4 @@ pub fn rises_by_process(w: &[u64], count: usize) -> bool
         i += 1;
     }
     true
-}
-
-// Event k goes: those behind it move down by one record, and the freed place is zero.
-pub fn remove(w: &mut [u64], count: usize, k: usize)
-    requires { ⌜ (k < count) × (8 * count ≤ length (now w)) ⌝ }
-    ensures { λ _. ⌜ Removed count k (now (w .entry)) (now (w .exit)) ⌝ }
-{
-    let at = 8 * k;
-    let n = 8 * (count - k - 1);
-    words::shift_down(&mut w[at..], n);
-    words::clear(w, 8 * (count - 1), 8 * count);
 }

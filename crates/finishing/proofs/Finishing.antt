@@ -1,17 +1,16 @@
 -- What each return of finishing gives.
 use mathlib.Core.Path.{_≡_, refl, sym, ap, _∙_}
 use mathlib.Core.Bool.{Bool, true, false, not, _&&_}
-use mathlib.Core.List.{List, [], _∷_, _++_}
-use Prim.Native.Nat.{ℕ, _+_, _*_, _-_, _≤_, _<_, min}
+use mathlib.Core.List.{List, [], _∷_}
+use Prim.Native.Nat.{ℕ, _+_, _*_, _-_, _≤_, _<_}
 use native.Mathlib.Omega.{arith}
-use lib.Dec.{ltb}
-use lib.ListN.{length, getD, take}
+use lib.ListN.{length, take}
 use lib.Seq.{length-take-le, take-all, getD-take}
 use borrow.Author.Tests.{lt-ltb, le-ltb}
 use Rattle.rules.specs.Base.{if_then_else_, upTo, any, anyOf, count}
-use Rattle.rules.specs.State.{Event, raise, most, most-processes}
+use Rattle.rules.specs.State.{Event, raise, most-processes}
 use Rattle.rules.specs.Answers as A
-use Rattle.rules.specs.Rows.{Row, unless}
+use Rattle.rules.specs.Rows.{unless}
 use Rattle.rules.specs.HandBack.{Emission, failed, fall, inBatch, malformed, isRemote, processRows}
 use Rattle.rules.proofs.Tests.{or-left, or-right, not-both}
 use Rattle.rules.proofs.Lists.{All, all-map, any-none}
@@ -20,7 +19,7 @@ use Rattle.records.specs.Records.{eventsOf}
 use Rattle.records.proofs.Stored.{events-cong}
 use Rattle.judging.specs.declared.Verdict.{Verdict}
 use Rattle.judging.specs.Judges.{Judges}
-use Rattle.judging.proofs.Verdicts.{refusing, Same, judges-same, same-behind, judges-front, struck, passed-by, nothing}
+use Rattle.judging.proofs.Verdicts.{refusing, Same, judges-same, same-behind, judges-front, struck}
 use Rattle.reviewing.proofs.Walk.{well-formed}
 use Rattle.state.specs.declared.Head.{Head}
 use Rattle.state.specs.declared.Counters.{Counters}
@@ -31,13 +30,12 @@ use Rattle.state.specs.Lent.{Lent}
 use Rattle.state.specs.Heads.{handledHead}
 use Rattle.state.proofs.Facts.{few-processes, few-pending, batch-order}
 use Rattle.sifting.specs.declared.Sifted.{Sifted}
-use Rattle.sifting.specs.Desks.{firstFailed, rowsUpTo, failedRow}
+use Rattle.sifting.specs.Desks.{firstFailed, failedRow}
 use Rattle.finishing.proofs.Rows.{rows-alike}
 use Rattle.laying.specs.Lays.{Copied}
-use Rattle.concluding.specs.Concludes.{Counts, Loses, Concludable, Concludes}
+use Rattle.concluding.specs.Concludes.{Counts, Loses, Concludes}
 use Rattle.settling.specs.Settles.{QueuesRound, Settles}
 use Rattle.settling.proofs.Settling as S
-use Rattle.handing.specs.Hands.{HandsBack}
 use Rattle.handing.proofs.Back.{back-lost, back-settled}
 use Rattle.finishing.specs.Finishes.{LastWord, TakesQueued, Heard, Finishes}
 

@@ -1,26 +1,25 @@
 -- 27 to 33, process by process, are 28 to 33 of the emissions in turn up to the first process that failed, and then 27 of it. Lists alone.
 use mathlib.Core.Path.{_≡_, refl, sym, ap, _∙_}
-use mathlib.Core.Bool.{Bool, true, false, not}
+use mathlib.Core.Bool.{true, false}
 use mathlib.Core.List.{List, [], _∷_, _++_, append-assoc}
-use Prim.Native.Nat.{ℕ, _≤_, _<_}
+use Prim.Native.Nat.{ℕ, _<_}
 use native.Mathlib.Omega.{arith}
-use lib.Dec.{ltb, eqb}
-use borrow.Author.Tests.{lt-ltb, le-ltb, eq-eqb, ne-eqb, eqb-true, eqb-false}
+use lib.Dec.{eqb}
+use borrow.Author.Tests.{lt-ltb, le-ltb, eq-eqb, ne-eqb, eqb-true}
 use Rattle.rules.specs.Base.{if_then_else_, any}
 use Rattle.rules.specs.State.{Event, State}
 use Rattle.rules.specs.Answers as A
-use Rattle.rules.specs.Answers.{Refusal}
-use Rattle.rules.specs.Rows.{Row, _⇒_, unless, Out}
+use Rattle.rules.specs.Rows.{Row, unless}
 use Rattle.rules.specs.Pending.{firstOf, firstTick, tickOr}
 use Rattle.rules.specs.HandBack.{Emission, failed, inBatch, processRows}
 use Rattle.rules.proofs.Tests.{by-bool, not-both}
-use Rattle.rules.proofs.Lists.{All, all-map}
+use Rattle.rules.proofs.Lists.{All}
 use Rattle.rules.proofs.Table.{unless-append}
 use Rattle.rules.proofs.Order.{Pairs}
 use Rattle.judging.specs.Judges.{rowsOf}
 use Rattle.reviewing.specs.Turns.{ownRows, behind}
 use Rattle.judging.proofs.Verdicts.{Same}
-use Rattle.reviewing.proofs.Walk.{Earlier, NotLater, From, Past, In, InTurn, past, beyond, from, turn, turn-rest}
+use Rattle.reviewing.proofs.Walk.{NotLater, From, Past, In, InTurn, past, beyond, from, turn, turn-rest}
 use Rattle.sifting.specs.Desks.{firstFailed, rowsOfNext, rowsUpTo, failedRow}
 
 abbrev Placed : Event → Type 0

@@ -4,12 +4,12 @@ use mathlib.Core.Bool.{true}
 use mathlib.Core.List.{List, [], _∷_, map}
 use Prim.Native.Nat.{ℕ, suc, _-_, _≤_, _<_, min, max}
 use native.Mathlib.Omega.{arith}
-use Rattle.words.specs.Words.{tab, horizonsOf}
+use Rattle.words.specs.Words.{horizonsOf}
 use Rattle.words.proofs.Tab.{map-tab}
 use Rattle.records.specs.Queue.{ticksOf}
 use Rattle.records.proofs.Placing.{all-at, at-all}
 use Rattle.records.proofs.Gathered.{leastFrom, least-end}
-use Rattle.rules.specs.Base.{if_then_else_, Maybe, rising}
+use Rattle.rules.specs.Base.{Maybe, rising}
 use Rattle.rules.specs.State.{Event}
 use Rattle.rules.specs.Pending.{before, firstOf, tickOr, firstTick}
 use Rattle.rules.specs.Refresh.{least, gvtOf}

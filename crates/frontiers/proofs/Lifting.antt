@@ -1,6 +1,5 @@
 -- Bounds rise, from the last edge to the first.
 use mathlib.Core.Path.{_≡_, refl, sym, ap, _∙_}
-use mathlib.Core.Logic.{_≢_}
 use mathlib.Core.Bool.{Bool, true, false}
 use mathlib.Core.List.{List, _∷_}
 use Prim.Native.Nat.{ℕ, zero, suc, _+_, _-_, _*_, _≤_, _<_, max}
@@ -13,7 +12,7 @@ use Rattle.types.specs.declared.SimTime.{SimTime}
 use Rattle.types.specs.Value.{value}
 use Rattle.words.specs.Words.{tab, tickAt, putTick}
 use Rattle.words.proofs.Tab.{tab-cong, tab-step, tab-none, tab-whole, Pass, pass-start, pass-more, pass-end}
-use Rattle.records.specs.Records.{edgeAt, edgesOf}
+use Rattle.records.specs.Records.{edgeAt}
 use Rattle.records.proofs.Stored.{bound-same, bound-other}
 use Rattle.rules.specs.Base.{if_then_else_}
 use Rattle.rules.specs.State.{Edge, State}

@@ -1,6 +1,5 @@
 -- Local horizons rise, from the last to the first.
 use mathlib.Core.Path.{_≡_, refl, sym, ap, _∙_}
-use mathlib.Core.Logic.{_≢_}
 use mathlib.Core.Bool.{Bool, true, false, _||_}
 use mathlib.Core.List.{List, _∷_}
 use Prim.Native.Nat.{ℕ, zero, suc, _+_, _-_, _*_, _≤_, _<_, max}
@@ -10,7 +9,7 @@ use lib.ListN.{length}
 use borrow.Author.Tests.{ltb-true, ltb-false, le-ltb}
 use Rattle.types.specs.declared.SimTime.{SimTime}
 use Rattle.types.specs.Value.{value}
-use Rattle.words.specs.Words.{tab, tickAt, horizonsOf, putTick}
+use Rattle.words.specs.Words.{tab, tickAt, putTick}
 use Rattle.words.proofs.Tab.{tab-cong, tab-step, tab-none, tab-whole, Pass, pass-start, pass-more, pass-end}
 use Rattle.words.proofs.Ticks.{table-same, table-other}
 use Rattle.rules.specs.Refresh.{raised}

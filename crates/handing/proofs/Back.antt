@@ -1,8 +1,8 @@
 -- What each return of hand back gives.
 use mathlib.Core.Path.{_≡_, refl, sym, ap, _∙_}
-use mathlib.Core.Bool.{Bool, true, false, not, true≢false}
+use mathlib.Core.Bool.{Bool, true, false, true≢false}
 use mathlib.Core.List.{List, []}
-use Prim.Native.Nat.{ℕ, _*_, _/_, _≤_, _<_}
+use Prim.Native.Nat.{ℕ, _*_, _/_, _≤_}
 use native.Mathlib.Omega.{arith}
 use lib.ListN.{length}
 use Rattle.words.specs.Words.{tab}
@@ -22,7 +22,7 @@ use Rattle.rules.proofs.Shape.{shaped}
 use Rattle.rules.proofs.ShapeCalls.{Fit, fits}
 use Rattle.edges.specs.Routes.{Routes}
 use Rattle.replies.specs.Emissions.{emissionsOf}
-use Rattle.replies.specs.Replies.{Owners, Places, Malformed}
+use Rattle.replies.specs.Replies.{Places, Malformed}
 use Rattle.judging.specs.declared.Verdict.{Verdict}
 use Rattle.judging.specs.Judges.{Judges, Judgeable}
 use Rattle.judging.proofs.InHand.{findable}

@@ -1,5 +1,5 @@
 -- The loop that decodes: what is left to store at i.
-use mathlib.Core.Path.{_≡_, _∙_, ap}
+use mathlib.Core.Path.{_≡_, _∙_}
 use mathlib.Core.List.{List, _++_}
 use Prim.Native.Nat.{ℕ, suc, _+_, _-_, _≤_, _<_}
 use native.Mathlib.Omega.{arith}
@@ -7,7 +7,7 @@ use native.Mathlib.Nat.{zero-add}
 use lib.ListN.{length, set, drop}
 use lib.Seq.{sets, sets-eq}
 use Rattle.words.specs.Words.{tab}
-use Rattle.words.proofs.Tab.{length-tab, tab-next, tab-none, tab-whole}
+use Rattle.words.proofs.Tab.{length-tab, tab-next, tab-none}
 
 module _ (f : ℕ → ℕ) where
   unfoldable pub storing : ℕ → ℕ → List ℕ → List ℕ

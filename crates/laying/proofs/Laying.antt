@@ -3,12 +3,10 @@ use mathlib.Core.Path.{_≡_, refl, sym, ap, _∙_}
 use mathlib.Core.Bool.{Bool, true, false}
 use mathlib.Core.List.{List}
 use Prim.Native.Nat.{ℕ, _+_, _-_, _*_, _≤_, _<_}
-use native.Mathlib.Omega.{arith}
 use lib.ListN.{length, getD}
 use Rattle.words.specs.Words.{tab}
 use Rattle.words.proofs.Tab.{tab-next, tab-none, tab-whole}
 use Rattle.rules.specs.Base.{if_then_else_}
-use Rattle.rules.specs.State.{Event}
 use Rattle.rules.specs.HandBack.{failed}
 use Rattle.rules.proofs.Tests.{not-both}
 use Rattle.records.specs.Records.{eventAt, edgesOf, eventsOf}
@@ -20,7 +18,7 @@ use Rattle.state.specs.declared.Answer.the-variants as P
 use Rattle.state.specs.Lent.{Lent}
 use Rattle.sifting.specs.declared.Sifted.{Sifted}
 use Rattle.sifting.specs.Desks.{routesIn, placesIn, firstFailed}
-use Rattle.laying.specs.Lays.{Sizes, desk, refusing, starting, Laid, Lays}
+use Rattle.laying.specs.Lays.{Sizes, desk, refusing, starting, Lays}
 use Rattle.laying.proofs.Filling.{routes-there, places-there}
 
 module _ (B : List ℕ) (n mask : ℕ) where

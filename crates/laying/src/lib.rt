@@ -11,7 +11,7 @@ ghost use Rattle.records.specs.Records.{eventsOf};
 ghost use Rattle.replies.specs.Replies.{Owners};
 ghost use Rattle.state.specs.Lent.{Lent};
 ghost use Rattle.sifting.specs.Desks.{firstFailed};
-ghost use Rattle.laying.specs.Lays.{Copied, Sizes, desk, refusing, starting, Lays};
+ghost use Rattle.laying.specs.Lays.{Copied, Sizes, desk, refusing, Lays};
 
 // The words of `from` go to those of w from `at` on.
 pub fn copy_at(w: &mut [u64], at: usize, from: &[u64])

@@ -1,5 +1,5 @@
 -- The hexadecimal digits of a number of two halves.
-use mathlib.Core.Path.{_≡_, refl, sym, ap, _∙_, subst}
+use mathlib.Core.Path.{_≡_, sym, ap, _∙_, subst}
 use mathlib.Core.List.{List, [], _∷_, _++_, append-nil, append-assoc}
 use Prim.Native.Nat.{ℕ, zero, suc, _+_, _-_, _*_, _/_, _%_, _^_, _≤_, _<_}
 use native.Mathlib.Omega.{arith}
@@ -7,7 +7,7 @@ use native.Mathlib.Nat.{add-zero, mul-assoc}
 use mathlib.Core.Logic.{⊎-elim}
 use lib.Pow.{pow-add}
 use lib.ListN.{length, take, drop}
-use lib.Seq.{length-take-le, take-all, take-length, take-append-seam}
+use lib.Seq.{length-take-le, take-length, take-append-seam}
 use Rattle.types.specs.declared.SimTime.{SimTime}
 use Rattle.types.specs.Value.{halves, value}
 use Rattle.types.proofs.Halves.{lt-or-ge}

@@ -1,17 +1,17 @@
 -- Records and edges in flat words: equal words say equal records, and what a store leaves of the others.
 use mathlib.Core.Path.{_≡_, refl, sym, ap, _∙_}
 use mathlib.Core.Logic.{_≢_, ⊎-elim}
-use mathlib.Core.List.{List, [], _∷_, _++_, append-assoc}
+use mathlib.Core.List.{List, _++_, append-assoc}
 use Prim.Native.Nat.{ℕ, suc, _+_, _-_, _*_, _≤_, _<_}
 use native.Mathlib.Omega.{arith}
 use native.Mathlib.Nat.{add-zero}
-use lib.ListN.{length, getD, set, take, drop, length-append, length-take, length-drop, List·getD-append}
+use lib.ListN.{length, getD, set, take, drop, List·getD-append}
 use lib.Seq.{getD-take, getD-drop, getD-append-add, length-take-le, sets-eq, set-getD}
 use Rattle.types.specs.declared.SimTime.{SimTime}
 use Rattle.types.specs.Value.{value}
 use Rattle.types.proofs.Halves.{lt-or-ge}
 use Rattle.words.specs.Words.{tickAt, putTick, cleared}
-use Rattle.words.proofs.Tab.{tab-cong, length-tab, tab-push}
+use Rattle.words.proofs.Tab.{tab-cong, length-tab}
 use Rattle.words.proofs.Ticks.{tick-cong, tick-same, word-other}
 use Rattle.words.proofs.Places.{clear-front}
 use Rattle.records.specs.declared.Record.{Record}
@@ -74,10 +74,6 @@ module _ (w : List ℕ) (at : ℕ) (r : Record) (fits : at + 8 ≤ length w) whe
   front : length (take at w) ≡ at
   front = let h : at ≤ length w = omega arith in length-take-le at w h
 
-  pub length-record : length (putRecord w at r) ≡ length w
-  unfolding putRecord
-  length-record = simp (length-append, length-take, length-drop) (omega arith)
-
   inside : (j : ℕ) → getD (putRecord w at r) (at + j) 0 ≡ getD (wordsOf r ++ drop (at + 8) w) j 0
   unfolding putRecord
   inside j = ap (λ (k : ℕ). getD (take at w ++ (wordsOf r ++ drop (at + 8) w)) (k + j) 0) (sym front) ∙ getD-append-add (take at w) _ j 0
@@ -116,12 +112,7 @@ event-other w i k r h ne =
     (λ (b : i ≤ k). let c : i < k = omega (arith, ne) in event-cong _ w k k (λ j l. word-past w (8 * i) r h (8 * k + j) (omega arith)))
     (lt-or-ge k i)
 
--- A record stored behind the last event, and words behind the events set to zero.
-pub events-push : (n : ℕ) (w : List ℕ) (r : Record) → 8 * n + 8 ≤ length w → eventsOf (n + 1) (putRecord w (8 * n) r) ≡ eventsOf n w ++ (eventOf r ∷ [])
-events-push n w r h =
-    let a : eventsOf n (putRecord w (8 * n) r) ≡ eventsOf n w = events-cong n _ w (λ k l. word-below w (8 * n) r h k l) in
-    tab-push (eventAt (putRecord w (8 * n) r)) n ∙ rw (a, event-same w n r h)
-
+-- Words behind the events set to zero.
 pub events-cleared : (n from to : ℕ) (w : List ℕ) → 8 * n ≤ from → from ≤ to → to ≤ length w → eventsOf n (cleared from to w) ≡ eventsOf n w
 events-cleared n from to w h a b = events-cong n _ w (λ k l. clear-front from to w a b k (omega arith))
 

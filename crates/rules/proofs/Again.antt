@@ -1,5 +1,5 @@
 -- For the code: a refresh after an advance raises no local horizon again, so they are written once.
-use mathlib.Core.Path.{_≡_, refl, sym, ap, _∙_}
+use mathlib.Core.Path.{_≡_, refl}
 use mathlib.Core.List.{List, [], _∷_}
 use Prim.Native.Nat.{ℕ, suc, min, max}
 use native.Mathlib.Omega.{arith}

@@ -1,12 +1,12 @@
 -- For the code: what a step gives, from the tests as a program makes them.
-use mathlib.Core.Path.{_≡_, ap}
+use mathlib.Core.Path.{_≡_}
 use mathlib.Core.Bool.{true, false, not, _||_}
 use mathlib.Core.List.{List, []}
 use Prim.Native.Nat.{ℕ, suc}
 use Rattle.rules.specs.Base.{if_then_else_, nonEmpty}
 use Rattle.rules.specs.State.{Event, Stored, stored, State, Counters, withBatch, closed}
 use Rattle.rules.specs.Answers as A
-use Rattle.rules.specs.Rows.{unless, Out, out, refuse}
+use Rattle.rules.specs.Rows.{unless, out, refuse}
 use Rattle.rules.specs.Foreign.{foreign}
 use Rattle.rules.specs.Step.{takenAt, spent, rose, nullsOf, advanced, countAdvance, complete, advance, stepRun, stepAt, step}
 use Rattle.rules.proofs.Cases.{Steps, Advances}

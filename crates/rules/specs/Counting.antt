@@ -1,13 +1,12 @@
 -- Demand 3's numbers on lists of calls from "Rehearsals on paper", computed from calls and answers.
 use mathlib.Core.Path.{_≡_}
-use mathlib.Core.List.{List, [], _∷_, _++_, map}
+use mathlib.Core.List.{List, [], _∷_, _++_}
 use Prim.Native.Nat.{ℕ}
 use lib.ListN.{length}
-use Rattle.rules.specs.State.{Event}
-use Rattle.rules.specs.Calls.{Call, AddInitial, Begin, Step, HandBack}
+use Rattle.rules.specs.Calls.{Call, Begin, Step, HandBack}
 use Rattle.rules.specs.History
 use Rattle.rules.specs.History.{Entry, fresh, tell, R, H, initials, inHand, emitted, remote, workers, used, handedTo}
-use Rattle.rules.specs.Rehearsals.{pair, budget, message, event, emits, no-events, at-two, handing-back, two-sources}
+use Rattle.rules.specs.Rehearsals.{pair, budget, event, emits, no-events, at-two, handing-back, two-sources}
 
 unfoldable pub told : List Call → List Entry
 told ks = tell (fresh pair) ks .entries

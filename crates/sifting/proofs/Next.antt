@@ -1,7 +1,7 @@
 -- What each return of one emission's judgement gives.
 use mathlib.Core.Path.{_≡_, refl, sym, ap, _∙_}
-use mathlib.Core.Bool.{Bool, true, false, not, true≢false}
-use mathlib.Core.List.{List, _++_, append-nil}
+use mathlib.Core.Bool.{Bool, true, false, not}
+use mathlib.Core.List.{List, append-nil}
 use mathlib.Core.Logic.{⊎-elim}
 use Prim.Native.Nat.{ℕ, _+_, _*_, _-_, _≤_, _<_}
 use native.Mathlib.Omega.{arith}
@@ -14,7 +14,6 @@ use Rattle.types.specs.Value.{value}
 use Rattle.types.proofs.Halves.{lt-or-ge}
 use Rattle.rules.specs.Base.{if_then_else_, any, anyOf}
 use Rattle.rules.specs.State.{Event, raise}
-use Rattle.rules.specs.Rows.{Row}
 use Rattle.rules.specs.HandBack as R
 use Rattle.rules.specs.HandBack.{inBatch}
 use Rattle.rules.proofs.Tests.{not-both, or-left, or-right}
@@ -22,10 +21,10 @@ use Rattle.records.specs.declared.Record.{Record}
 use Rattle.records.specs.Records.{recordIn, eventAt, eventOf, eventsOf}
 use Rattle.replies.specs.declared.Emission.{Emission}
 use Rattle.replies.specs.Emissions.{emissionOf}
-use Rattle.replies.specs.Replies.{Places, IllFormed, illFormed}
+use Rattle.replies.specs.Replies.{IllFormed, illFormed}
 use Rattle.replies.proofs.Table.{absent, past-end, place-first}
 use Rattle.judging.specs.declared.Verdict.{Verdict}
-use Rattle.judging.specs.Judges.{Judges, Judgeable, JudgesOne}
+use Rattle.judging.specs.Judges.{Judgeable, JudgesOne}
 use Rattle.judging.proofs.Verdicts.{judges-same, same-behind, judges-front}
 use Rattle.state.specs.declared.Head.{Head}
 use Rattle.sifting.specs.declared.Sifted.{Sifted}

@@ -8,13 +8,12 @@ use lib.ListN.{length}
 use Rattle.rules.specs.State.{Event, numbered}
 use Rattle.rules.proofs.Tests.{not-both}
 use Rattle.records.specs.declared.Record.{Record}
-use Rattle.records.specs.Records.{eventOf, eventsOf}
+use Rattle.records.specs.Records.{eventOf}
 use Rattle.records.specs.Queue as Q
 use Rattle.records.specs.Queue.{Inserted}
 use Rattle.replies.specs.declared.Emission.{Emission}
 use Rattle.replies.specs.Emissions.{emissionOf}
 use Rattle.queueing.proofs.Turns.{drop-further}
-use Rattle.state.specs.declared.Head.{Head}
 use Rattle.sifting.specs.declared.Sifted.{Sifted}
 use Rattle.sifting.specs.Sifts.{Seated, Roomy, Takes, JudgesNext, Ready, Sifts}
 

@@ -8,10 +8,8 @@ use lib.Dec.{leb}
 use lib.ListN.{length}
 use Rattle.rules.specs.Base.{if_then_else_, any, count, rising}
 use Rattle.rules.specs.State.{Message, Event, State, numbered, raise, most}
-use Rattle.rules.specs.Rows.{Row}
 use Rattle.rules.specs.Pending.{before, insert, queue, firstTick}
-use Rattle.rules.specs.HandBack.{Emission, isRemote, messages}
-use Rattle.rules.proofs.Tests.{by-bool}
+use Rattle.rules.specs.HandBack.{Emission, isRemote}
 use Rattle.records.proofs.Placing.{insert-rises, insert-newest}
 use Rattle.replies.specs.Replies.{illFormed, anyIllFormed}
 use Rattle.sifting.specs.Desks.{lastOf, counted, rowsOfNext, rowsUpTo}

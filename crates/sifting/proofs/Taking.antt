@@ -1,28 +1,26 @@
 -- A reply is taken from its first emission to its last.
-use mathlib.Core.Path.{_≡_, refl, sym, ap, subst, _∙_}
-use mathlib.Core.Bool.{Bool, true, false, not, _||_}
+use mathlib.Core.Path.{_≡_, refl, sym, ap, _∙_}
+use mathlib.Core.Bool.{Bool, true, false, not}
 use mathlib.Core.List.{List, [], _∷_, _++_}
-use Prim.Native.Nat.{ℕ, _+_, _-_, _≤_, _<_}
+use Prim.Native.Nat.{ℕ, _+_, _-_, _≤_}
 use native.Mathlib.Omega.{arith}
 use lib.ListN.{length, getD, take, drop, length-append, length-map}
 use Rattle.rules.specs.Base.{count}
-use Rattle.rules.specs.State.{Event}
-use Rattle.rules.specs.Pending.{insert, queue, firstOf, firstTick, tickOr}
+use Rattle.rules.specs.Pending.{queue, firstTick, tickOr}
 use Rattle.rules.specs.HandBack.{messages}
 use Rattle.rules.proofs.Tests.{by-bool, not-both, not-true, not-false}
-use Rattle.records.specs.Records.{eventAt, edgesOf, eventsOf}
+use Rattle.records.specs.Records.{edgesOf, eventsOf}
 use Rattle.edges.specs.Routes.{Routes}
 use Rattle.replies.specs.declared.Emission.{Emission}
 use Rattle.replies.specs.Emissions.{emissionOf}
-use Rattle.replies.specs.Replies.{Places, illFormed, anyIllFormed}
+use Rattle.replies.specs.Replies.{illFormed, anyIllFormed}
 use Rattle.replies.proofs.Table.{place-first}
 use Rattle.judging.specs.Judges.{Judges}
 use Rattle.judging.proofs.Verdicts.{nothing}
 use Rattle.queueing.proofs.Turns.{drop-further}
-use Rattle.state.specs.declared.Head.{Head}
 use Rattle.state.specs.View.{view}
 use Rattle.sifting.specs.declared.Sifted.{Sifted}
-use Rattle.sifting.specs.Desks.{routesIn, horizonsIn, batchIn, placesIn, lastOf, counted, rowsUpTo}
+use Rattle.sifting.specs.Desks.{routesIn, horizonsIn, batchIn, placesIn, lastOf, rowsUpTo}
 use Rattle.sifting.specs.Sifts.{Seated, Roomy, timeIn, NextVerdict, JudgesNext, Ready, Sifts}
 use Rattle.sifting.specs.Taken.{replyOf, inHand, Begun, Taken}
 use Rattle.sifting.proofs.Next.{seat}

@@ -6,7 +6,7 @@ use Prim.Native.Nat.{ℕ, _+_}
 use lib.Dec.{leb}
 use lib.ListN.{length, drop}
 use Rattle.rules.specs.Base.{any, rising, count}
-use Rattle.rules.specs.State.{Event, raise, most}
+use Rattle.rules.specs.State.{Event, raise}
 use Rattle.rules.specs.Pending.{before, queue}
 use Rattle.rules.specs.HandBack as R
 use Rattle.rules.specs.HandBack.{messages, isRemote}

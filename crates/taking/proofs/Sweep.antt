@@ -5,13 +5,13 @@ use mathlib.Core.List.{List, [], _∷_}
 use Prim.Native.Nat.{ℕ, zero, suc, _+_, _-_, _≤_, _<_, max}
 use native.Mathlib.Omega.{arith}
 use lib.Dec.{leb, ltb, eqb}
-use borrow.Author.Tests.{eq-eqb, ne-eqb, le-leb, lt-leb, lt-ltb, leb-true, ltb-true, leb-false}
+use borrow.Author.Tests.{eq-eqb, ne-eqb, le-leb, lt-leb, lt-ltb, leb-true, ltb-true}
 use Rattle.rules.specs.Base.{if_then_else_, Maybe, none, some, upFrom}
 use Rattle.rules.specs.State.{Event, Edge}
 use Rattle.rules.specs.Pending.{firstOf, withoutFirst}
 use Rattle.rules.specs.Frontiers.{safe, below, eligible}
 use Rattle.rules.specs.Step.{Taken, takeOne, take}
-use Rattle.rules.proofs.Tests.{by-bool, and-left, and-right}
+use Rattle.rules.proofs.Tests.{and-left, and-right}
 use Rattle.rules.proofs.Lists.{All}
 use mathlib.Core.Logic.{⊎-elim}
 use Rattle.types.proofs.Halves.{lt-or-ge}

@@ -12,10 +12,9 @@ use Rattle.types.specs.declared.SimTime.{SimTime}
 use Rattle.types.specs.Value.{value}
 use Rattle.types.proofs.Halves.{lt-or-ge}
 use Rattle.rules.specs.State.{Event}
-use Rattle.rules.specs.Step.{Taken}
 use Rattle.rules.proofs.Tests.{not-both}
 use Rattle.words.specs.Words.{tab, tickAt}
-use Rattle.words.proofs.Tab.{tab-cong, tab-push, tab-next, tab-none}
+use Rattle.words.proofs.Tab.{tab-cong, tab-push, tab-next}
 use Rattle.records.specs.declared.Record.{Record}
 use Rattle.records.specs.Records.{eventOf, recordIn, putRecord, eventAt, eventsOf}
 use Rattle.records.proofs.Stored.{event-to, event-tick, event-same, event-other, word-past, record-back}

@@ -5,8 +5,6 @@ use mathlib.Core.Bool.{true, false}
 use mathlib.Core.List.{List}
 use Prim.Native.Nat.{ℕ, _+_, _-_, _*_, _≤_, _<_}
 use lib.ListN.{length, getD}
-use Rattle.rules.specs.State.{Event}
-use Rattle.rules.specs.Step.{Taken}
 use Rattle.words.specs.Words.{tickAt}
 use Rattle.records.specs.Records.{eventAt, eventsOf}
 use Rattle.taking.specs.Sweep.{takes, seenBy, sweep}

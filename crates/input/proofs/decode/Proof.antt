@@ -1,7 +1,7 @@
 use native.Mathlib.Omega.{arith}
 use Prim.Native.Nat.{_-_, _≤_}
-use mathlib.Core.Path.{_≡_, refl, ap, _∙_}
-use lib.ListN.{length, set, length-set}
+use mathlib.Core.Path.{_≡_, refl}
+use lib.ListN.{length, length-set}
 use Rattle.input.specs.Little.{wordOf}
 use Rattle.input.proofs.Decoded.{storing, storing-more, storing-end}
 use Rattle.input.proofs.decode.Statement.{statement}
