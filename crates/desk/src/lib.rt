@@ -1,6 +1,6 @@
 // Hand back in three parts, for a host whose reply is no flat words: a desk is opened, each emission
 // is sifted on it, and it is closed.
-use foreign::is_foreign_state;
+use foreign::is_foreign;
 use runtime::Called;
 use sifting::Desk;
 use state::Answer;
@@ -32,12 +32,16 @@ fn open_passed(state: Runtime, mask: u64) -> Desk
     if head.batch == 0 {
         return shut(head, mask, Answer::NoBatch);
     }
-    let edges = state.edges;
-    let pending = state.pending;
-    let horizons = state.horizons;
-    let batch = state.batch;
     let mut words = [0u64; 4864];
-    let sifted = laying::lay(head, &edges, &pending, &horizons, &batch, mask, &mut words);
+    let sifted = laying::lay(
+        head,
+        &state.edges,
+        &state.pending,
+        &state.horizons,
+        &state.batch,
+        mask,
+        &mut words,
+    );
     Desk {
         words: words,
         sifted: sifted,
@@ -47,15 +51,15 @@ fn open_passed(state: Runtime, mask: u64) -> Desk
 pub fn open(state: Runtime, mask: u64) -> Desk
     ensures { λ r. ⌜ Opens state mask r ⌝ }
 {
-    if is_foreign_state(state) {
-        let head = state.head;
+    let head = state.head;
+    if is_foreign(head, &state.edges, &state.pending, &state.batch) {
         return shut(head, mask, Answer::ForeignState);
     }
     open_passed(state, mask)
 }
 
 // After `emitted` emissions. What stopped the reply before any was judged leaves the state as given.
-pub fn close(state: Runtime, counters: Counters, desk: Desk, emitted: usize) -> Called
+pub fn close(mut state: Runtime, counters: Counters, desk: Desk, emitted: usize) -> Called
     requires { ⌜ Closable state desk ⌝ }
     ensures { λ r. ⌜ Closes state counters desk emitted r ⌝ }
 {
@@ -69,35 +73,31 @@ pub fn close(state: Runtime, counters: Counters, desk: Desk, emitted: usize) -> 
             counters: counters,
         };
     }
-    let words = desk.words;
     let head = state.head;
-    let edges = state.edges;
     let mut pending = state.pending;
     let mut horizons = state.horizons;
     let mut batch = state.batch;
     let done = finishing::finish(
         head,
         counters,
-        &edges,
+        &state.edges,
         &mut pending,
         &mut horizons,
         &mut batch,
-        &words,
+        &desk.words,
         sifted,
         emitted,
     );
     let answer = done.answer;
     let left = done.head;
     let counted = done.counters;
+    state.pending = pending;
+    state.horizons = horizons;
+    state.batch = batch;
+    state.head = left;
     Called {
         answer: answer,
-        state: Runtime {
-            edges: edges,
-            pending: pending,
-            horizons: horizons,
-            batch: batch,
-            head: left,
-        },
+        state: state,
         counters: counted,
     }
 }

@@ -1,15 +1,13 @@
 // 11 on the program's state: a head beside its arrays. Its tests, by what is read for them, are in
 // specs/Tests.antt.
 use state::Head;
-use state::Runtime;
 use types::SimTime;
 ghost use mathlib.Core.Path.{_≡_};
 ghost use Prim.Native.Nat.{_*_, _≤_};
 ghost use lib.ListN.{length};
 ghost use Rattle.rules.specs.Base.{anyOf};
-ghost use Rattle.rules.specs.Foreign.{atTop, foreign};
+ghost use Rattle.rules.specs.Foreign.{atTop};
 ghost use Rattle.records.specs.Records.{edgesOf, eventsOf};
-ghost use Rattle.state.specs.View.{viewOf};
 ghost use Rattle.foreign.specs.Tests.{sizeTests, countTests, storedIn, runTests, headTests, edgeTests, pendingTests, batchTests, IsForeign};
 
 // Of the process count and the lookahead.
@@ -129,12 +127,4 @@ pub fn is_foreign<'a>(head: Head, edges: &'a [u64], pending: &'a [u64], batch: &
         return true;
     }
     odd_batch(batch, head.batch, n)
-}
-
-// The same of a runtime by value.
-pub fn is_foreign_state(state: Runtime) -> bool
-    ensures { λ r. ⌜ r ≡ foreign (viewOf state) ⌝ }
-{
-    let head = state.head;
-    is_foreign(head, &state.edges, &state.pending, &state.batch)
 }

@@ -7,7 +7,7 @@ use Rattle.desk.proofs.close.Tie as tie
 returns : tie.Need-returns
 returns c =
     let start = c .before .before .before .before in
-    close-as-given (start .args .state) (start .args .counters) (start .args .desk) _ (not-true _ (c .before .if1 .taken))
+    close-as-given _ (start .args .counters) _ _ (not-true _ (c .before .if1 .taken))
 
 slice-aggregate-finish : tie.Need-slice-aggregate-finish
 slice-aggregate-finish c = search needs
@@ -18,25 +18,19 @@ slice-aggregate-finish-2 c = search needs
 slice-aggregate-finish-3 : tie.Need-slice-aggregate-finish-3
 slice-aggregate-finish-3 c = search needs
 
-slice-aggregate-finish-4 : tie.Need-slice-aggregate-finish-4
-slice-aggregate-finish-4 c = search needs
-
-slice-aggregate-finish-5 : tie.Need-slice-aggregate-finish-5
-slice-aggregate-finish-5 c = search needs
-
 finish-requires : tie.Need-finish-requires
 finish-requires c κs =
-    let going = c .before .before .before .before .before .before .before .before .before .before .before in
+    let going = c .before .before .before .before .before .before .before .before .before .before .before .before .before in
     let start = going .before .before .before in
-    let opened = can-finish (start .args .state) (start .args .counters) (start .args .desk) (start .args .emitted) (start .pre) (not-false _ (going .if1 .left)) in
+    let opened = can-finish _ (start .args .counters) _ (start .args .emitted) (start .pre) (not-false _ (going .if1 .left)) in
     (opened .lent, opened .in-hand, search (start .good .1 .1 .0, needs))
 
 returns-2 : tie.Need-returns-2
 returns-2 c =
     let finish = c .before .before .before .before .before in
-    let going = finish .before .before .before .before .before .before .before .before .before .before .before .before in
+    let going = finish .before .before .before .before .before .before .before .before .before .before .before .before .before .before in
     let start = going .before .before .before in
-    close-round (start .args .state) (start .args .counters) (start .args .desk) _ (not-false _ (going .if1 .left)) (finish .finish .result) _ _ _ (finish .finish .ensures)
+    close-round _ (start .args .counters) _ _ (not-false _ (going .if1 .left)) (finish .finish .result) _ _ _ (finish .finish .ensures)
 
 pub close-spec : {M : Type 1} → statement M
 close-spec =
@@ -46,7 +40,5 @@ close-spec =
     slice-aggregate-finish
     slice-aggregate-finish-2
     slice-aggregate-finish-3
-    slice-aggregate-finish-4
-    slice-aggregate-finish-5
     finish-requires
     returns-2)

@@ -9,7 +9,7 @@ shut-requires c κs = search needs
 returns : tie.Need-returns
 returns c =
     let start = c .before .before .before in
-    open-dead (start .args .state) (start .args .mask) (start .pre) (c .before .if1 .taken) _ (c .shut .ensures)
+    open-dead _ (start .args .mask) (start .pre) (c .before .if1 .taken) _ (c .shut .ensures)
 
 shut-requires-2 : tie.Need-shut-requires-2
 shut-requires-2 c κs = search needs
@@ -18,22 +18,10 @@ returns-2 : tie.Need-returns-2
 returns-2 c =
     let healthy = c .before .before .before in
     let start = healthy .before .before in
-    open-empty (start .args .state) (start .args .mask) (start .pre) (healthy .if1 .left) (c .before .if2 .taken) _ (c .shut2 .ensures)
+    open-empty _ (start .args .mask) (start .pre) (healthy .if1 .left) (c .before .if2 .taken) _ (c .shut2 .ensures)
 
 slice-aggregate-lay : tie.Need-slice-aggregate-lay
 slice-aggregate-lay c = search needs
-
-slice-aggregate-lay-2 : tie.Need-slice-aggregate-lay-2
-slice-aggregate-lay-2 c = search needs
-
-slice-aggregate-lay-3 : tie.Need-slice-aggregate-lay-3
-slice-aggregate-lay-3 c = search needs
-
-slice-aggregate-lay-4 : tie.Need-slice-aggregate-lay-4
-slice-aggregate-lay-4 c = search needs
-
-slice-aggregate-lay-5 : tie.Need-slice-aggregate-lay-5
-slice-aggregate-lay-5 c = search needs
 
 lay-requires : tie.Need-lay-requires
 lay-requires c κs = search needs
@@ -41,10 +29,10 @@ lay-requires c κs = search needs
 returns-3 : tie.Need-returns-3
 returns-3 c =
     let lay = c .before in
-    let held = lay .before .before .before .before .before .before .before .before .before .before in
+    let held = lay .before .before .before .before .before .before .before .before .before .before .before in
     let healthy = held .before .before in
     let start = healthy .before .before in
-    open-laid (start .args .state) (start .args .mask) (start .pre) (healthy .if1 .left) (held .if2 .left) (lay .lay .result) _ (search needs) (lay .lay .ensures)
+    open-laid _ (start .args .mask) (start .pre) (healthy .if1 .left) (held .if2 .left) (lay .lay .result) _ (search needs) (lay .lay .ensures)
 
 pub open-passed-spec : {M : Type 1} → statement M
 open-passed-spec =
@@ -55,9 +43,5 @@ open-passed-spec =
     shut-requires-2
     returns-2
     slice-aggregate-lay
-    slice-aggregate-lay-2
-    slice-aggregate-lay-3
-    slice-aggregate-lay-4
-    slice-aggregate-lay-5
     lay-requires
     returns-3)
