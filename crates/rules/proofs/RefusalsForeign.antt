@@ -2,11 +2,10 @@
 use mathlib.Core.Path.{refl}
 use Rattle.rules.specs.Opened.{all-rules}
 use Rattle.rules.specs.Told.{reach, times}
-use Rattle.rules.specs.Samples.{manyEvents}
-use Rattle.rules.specs.RefusalsForeign.{RefusingForeign, manyEdges, manyInHand}
+use Rattle.rules.specs.RefusalsForeign.{RefusingForeign, manyInHand}
 
 pub refusing-foreign : RefusingForeign
-unfolding all-rules reach times manyEvents manyEdges manyInHand
+unfolding all-rules reach times manyInHand
 refusing-foreign = record {
   good-reached = refl;
   r11 = refl;

@@ -3,10 +3,10 @@ use mathlib.Core.Path.{refl}
 use Rattle.rules.specs.Opened.{all-rules}
 use Rattle.rules.specs.Rehearsals.{pair, one-way}
 use Rattle.rules.specs.Told.{reach}
-use Rattle.rules.specs.Samples.{Sampled, manyEvents, filled}
+use Rattle.rules.specs.Samples.{Sampled}
 
 pub sampled : Sampled
-unfolding all-rules pair one-way reach manyEvents filled
+unfolding all-rules pair one-way reach
 sampled = record {
   fresh-built = refl;
   one-way-built = refl;
@@ -19,6 +19,4 @@ sampled = record {
   two-reached = refl;
   one-reached = refl;
   top-reached = refl;
-  full-reached = refl;
-  full-in-hand-reached = refl;
 }

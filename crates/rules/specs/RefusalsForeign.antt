@@ -2,7 +2,7 @@
 use mathlib.Core.Path.{_≡_}
 use mathlib.Core.Bool.{Bool, true, false}
 use mathlib.Core.List.{List, [], _∷_, map}
-use Prim.Native.Nat.{ℕ, zero, suc, _+_, _-_, _^_, _/_, _%_}
+use Prim.Native.Nat.{ℕ, zero, suc, _-_, _^_}
 use Rattle.rules.specs.State.{Event, Edge, Stored, unset, stored, State, zeros, poison}
 use Rattle.rules.specs.Foreign.{foreign}
 use Rattle.rules.specs.Initial.{addInitial}
@@ -13,7 +13,7 @@ use Rattle.rules.specs.Reads.{readGvt, readCounters, readPending, readEa
 use Rattle.rules.specs.Calls.{AddInitial, Begin, Step}
 use Rattle.rules.specs.Rehearsals.{message, event}
 use Rattle.rules.specs.Told.{Gives, reach, times}
-use Rattle.rules.specs.Samples.{edge, edges, zero-zero, fresh, manyEvents}
+use Rattle.rules.specs.Samples.{edge, edges, zero-zero, fresh}
 
 -- A state by what `foreign` looks at: n, L, edges, pending events, next sequence number, local horizons, stored horizon and budget, batch, run open.
 abbrev pub seen : ℕ → ℕ → List Edge → List Event → ℕ → List ℕ → Stored → List Event → Bool → State
@@ -36,11 +36,6 @@ batch = event 0 1 2 0 ∷ []
 abbrev pub good : State
 good = seen 2 3 edges waiting 3 zero-zero run batch true
 
--- k edges among 64 processes, none twice.
-unfoldable pub manyEdges : ℕ → List Edge
-manyEdges zero = []
-manyEdges (suc k) = edge (k / 63) ((k / 63 + 1 + k % 63) % 64) ∷ manyEdges k
-
 -- Events of k processes, from p on.
 unfoldable pub manyInHand : ℕ → ℕ → List Event
 manyInHand p zero = []
@@ -58,9 +53,7 @@ spoilt =
     ∷ seen 65 3 edges waiting 3 (times 65 0) run batch true
     -- "L = 0"
     ∷ no-lookahead
-    -- "a count or length over its limit": edges, pending events, batch, payloads. A batch of 65 has a strange id or one twice besides.
-    ∷ seen 64 3 (manyEdges 513) waiting 3 (times 64 0) run batch true
-    ∷ seen 2 3 edges (manyEvents 513) 513 zero-zero run batch true
+    -- "a count or length over its limit": batch, payloads; edges and pending events are in the crate `limits`. A batch of 65 has a strange id or one twice besides.
     ∷ seen 64 3 edges waiting 3 (times 64 0) run (manyInHand 0 65) true
     ∷ seen 2 3 edges (event 0 0 7 1 ∷ loaded 1 3 2 17 ∷ []) 3 zero-zero run batch true
     ∷ seen 2 3 edges waiting 3 zero-zero run (loaded 1 2 0 17 ∷ []) true
@@ -96,12 +89,11 @@ spoilt =
     ∷ seen 2 3 edges waiting 3 (0 ∷ 0 ∷ 0 ∷ []) run batch true
     ∷ []
 
--- The good state; 1 process, 64 processes, 512 edges, 512 pending events, a batch of 64, payloads of 16, a horizon of 2^128 - 2.
+-- The good state; 1 process, payloads of 16. The larger limits are in the crate `limits`.
 abbrev pub at-limits : List State
 at-limits =
     good
     ∷ seen 1 3 [] [] 3 (0 ∷ []) run [] true
-    ∷ seen 64 3 (manyEdges 512) (manyEvents 512) 512 (times 64 0) (stored (2 ^ 128 - 2) 10) (manyInHand 0 64) true
     ∷ seen 2 3 edges (event 0 0 7 1 ∷ loaded 1 3 2 16 ∷ []) 3 zero-zero run (loaded 1 2 0 16 ∷ []) true
     ∷ []
 

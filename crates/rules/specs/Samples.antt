@@ -5,7 +5,6 @@ use mathlib.Core.List.{List, [], _∷_}
 use Prim.Native.Nat.{ℕ, zero, suc, _-_, _^_}
 use Rattle.rules.specs.State.{Event, Edge, unset, stored, State, zeros, withPending, withRun}
 use Rattle.rules.specs.Build.{built}
-use Rattle.rules.specs.Initial.{addInitial}
 use Rattle.rules.specs.Calls.{AddInitial, Begin, Step}
 use Rattle.rules.specs.Rehearsals.{pair, one-way, budget, message, event, emits, initial-at, no-events, at-two, handing-back}
 use Rattle.rules.specs.Told.{reach}
@@ -70,11 +69,7 @@ unfoldable pub manyEvents : ℕ → List Event
 manyEvents zero = []
 manyEvents (suc k) = event 0 1 (512 - k) k ∷ manyEvents k
 
--- k adds, each at a tick below those before it; and what 512 of them lead to.
-unfoldable pub filled : ℕ → State
-filled zero = fresh
-filled (suc k) = addInitial (filled k) zeros (message 0 1 (512 - k)) .after
-
+-- What 512 adds lead to, each at a tick below those before it (crate `limits`).
 abbrev pub full : State
 full = withPending fresh (manyEvents 512) 512
 
@@ -94,6 +89,3 @@ pub record Sampled : Type 0 where
   pub two-reached : reach fresh zeros (AddInitial (message 0 0 1) ∷ AddInitial (message 0 1 2) ∷ Begin 9 budget ∷ Step ∷ []) ≡ two-in-hand
   pub one-reached : reach fresh-one-way zeros (AddInitial (message 1 1 2) ∷ Begin (2 ^ 128 - 2) budget ∷ Step ∷ []) ≡ one-in-hand 1 2
   pub top-reached : reach fresh-one-way zeros (AddInitial (message 0 0 (2 ^ 128 - 2)) ∷ Begin (2 ^ 128 - 2) budget ∷ Step ∷ []) ≡ one-in-hand 0 (2 ^ 128 - 2)
-  -- 512 adds are accepted.
-  pub full-reached : filled 512 ≡ full
-  pub full-in-hand-reached : reach full zeros (Begin 9 budget ∷ Step ∷ []) ≡ full-in-hand

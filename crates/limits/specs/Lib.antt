@@ -1,0 +1,2 @@
+-- The rules at the limits of document 01.
+pub mod AtLimits
