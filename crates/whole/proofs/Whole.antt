@@ -22,10 +22,10 @@ use Rattle.host.proofs.step.Met as lent-step-met
 use Rattle.host.proofs.hand_back.Met as lent-back-met
 use Rattle.host.proofs.read_counters.Met as lent-counters-met
 use Rattle.host.proofs.read_pending.Met as lent-pending-met
 use Rattle.demand.specs.Links.{Link, Carried}
 use Rattle.demand.specs.Proved.{Proved}
-use Rattle.demand.specs.Whole.{Asked, AddInitial, Begin, Step, HandBack, HandBackRecords, Done, Learns, Ran, callOf, linkOf, ReadAfter, Whole}
+use Rattle.whole.specs.Whole.{Asked, AddInitial, Begin, Step, HandBack, HandBackRecords, Done, Learns, Ran, callOf, linkOf, ReadAfter, Whole}
 use Rattle.demand.proofs.Demanded.{demand-3-of-the-program}
 
 carries : (s : Runtime) (c : Counters) (k : Asked) (r : Called) → Learns s c k r → Carries (callOf k) s c (r .answer) (r .state) (r .counters)
 carries s c (AddInitial m) r l = l
