@@ -4,13 +4,13 @@ use mathlib.Core.Bool.{true, false}
 use mathlib.Core.List.{List, [], _∷_, map}
 use Prim.Native.Nat.{ℕ, zero, suc, _+_, _-_, _^_, _/_, _%_}
 use Rattle.rules.specs.Base.{upTo}
-use Rattle.rules.specs.State.{Event, Edge, stored, State, zeros}
+use Rattle.rules.specs.State.{Edge, stored, State, zeros}
 use Rattle.rules.specs.Answers.{Entity, number}
 use Rattle.rules.specs.Foreign.{foreign}
 use Rattle.rules.specs.Initial.{addInitial}
 use Rattle.rules.specs.Calls.{Begin, Step}
 use Rattle.rules.specs.Plan.{plan}
-use Rattle.rules.specs.Rehearsals.{budget, message, event}
+use Rattle.rules.specs.Rehearsals.{budget, message}
 use Rattle.rules.specs.Told.{Lays, reach, times}
 use Rattle.rules.specs.Samples.{edge, edges, zero-zero, fresh, manyEvents, full, full-in-hand}
 use Rattle.rules.specs.RefusalsForeign.{seen, waiting, run, batch, manyInHand}
