@@ -1,5 +1,5 @@
 -- The passes over one process's emissions and over the events in hand.
-use mathlib.Core.Path.{_≡_, refl, sym, ap, _∙_}
+use mathlib.Core.Path.{_≡_, refl, sym, ap, subst, _∙_}
 use mathlib.Core.Bool.{Bool, true, false, true≢false}
 use mathlib.Core.List.{List, [], _∷_, _++_}
 use Prim.Native.Nat.{ℕ, _+_, _-_, _*_, _≤_, _<_}
@@ -26,7 +26,7 @@ use Rattle.judging.specs.declared.Verdict.{Verdict}
 use Rattle.judging.specs.Judges.{Judges, rowsOf, JudgesOne}
 use Rattle.judging.proofs.Verdicts.{refusing, sound, nothing, struck, go-by, Same, passed-by, judges-same, same-behind, judges-front}
 use Rattle.reviewing.specs.declared.Judged.{Judged}
-use Rattle.reviewing.specs.Turns.{ownRows, behind, emissionsFrom, Replied, JudgesOwn, JudgesReply}
+use Rattle.reviewing.specs.Turns.{ownRows, behind, emissionsFrom, passedTo, Replied, JudgesOwn, JudgesReply}
 use Rattle.reviewing.proofs.Walk.{InTurn, turn, turn-rest, well-formed}
 
 -- One process.
@@ -45,24 +45,24 @@ module _ (h : Head) (R Z w : List ℕ) (k p : ℕ) (time : SimTime) (from : ℕ)
 
   module _ (i : ℕ) (o : Own i) where
     -- None is of p.
-    done : ((E Q B : List ℕ) → own E Q B i ≡ []) → behind p (emissionsFrom w i k) ≡ emissionsFrom w i k → JudgesOwn h R Z w from k p time (record { verdict = sound; next = i })
-    done z b = record {
+    done : (v : Judged) → v ≡ passedTo i → ((E Q B : List ℕ) → own E Q B i ≡ []) → behind p (emissionsFrom w i k) ≡ emissionsFrom w i k → JudgesOwn h R Z w from k p time v
+    done v q z b = subst (JudgesOwn h R Z w from k p time) (sym q) (record {
       judges = λ E Q B x. judges-same _ _ _ (o .same E Q B x) (rw (z E Q B) nothing);
       rest = λ _. sym (o .rest ∙ b);
-    }
+    })
 
-    pub own-end : k ≤ i → JudgesOwn h R Z w from k p time (record { verdict = sound; next = i })
+    pub own-end : k ≤ i → (v : Judged) → v ≡ passedTo i → JudgesOwn h R Z w from k p time v
     unfolding ownRows behind
-    own-end l = let e = tab-none (emissionAt w) i k l in done (λ E Q B. rw e) (rw e)
+    own-end l v q = let e = tab-none (emissionAt w) i k l in done v q (λ E Q B. rw e) (rw e)
 
     module _ (l : i < k) (e : Emission) (r : e ≡ emissionIn w (8 * i)) where
       left : emissionsFrom w i k ≡ emissionOf e ∷ emissionsFrom w (i + 1) k
       unfolding emissionAt
       left = tab-next (emissionAt w) i k l ∙ ap (λ (x : Emission). emissionOf x ∷ emissionsFrom w (i + 1) k) (sym r)
 
-      pub own-other : (e .emitter ≡ p → ⊥) → JudgesOwn h R Z w from k p time (record { verdict = sound; next = i })
+      pub own-other : (e .emitter ≡ p → ⊥) → (v : Judged) → v ≡ passedTo i → JudgesOwn h R Z w from k p time v
       unfolding ownRows behind if_then_else_
-      own-other n = let b = ne-eqb (e .emitter) p n in done (λ E Q B. rw left (rw b)) (rw left (rw b))
+      own-other n v q = let b = ne-eqb (e .emitter) p n in done v q (λ E Q B. rw left (rw b)) (rw left (rw b))
 
       module _ (a : e .emitter ≡ p) (v : Verdict) (j : JudgesOne h R Z e time v) where
         front : (E Q B : List ℕ) → own E Q B i ≡ rowsOf (view h E Q Z B) (value time) (emissionOf e) ++ own E Q B (i + 1)

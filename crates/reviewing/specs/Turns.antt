@@ -18,6 +18,7 @@ use Rattle.edges.specs.Routes.{Routes}
 use Rattle.replies.specs.Emissions.{emissionAt, emissionsOf}
 use Rattle.replies.specs.Replies.{Owners}
 use Rattle.state.specs.declared.Head.{Head}
+use Rattle.state.specs.declared.Answer.the-variants as P
 use Rattle.state.specs.View.{view}
 use Rattle.judging.specs.declared.Verdict.{Verdict}
 use Rattle.judging.specs.Judges.{Judges, rowsOf}
@@ -43,6 +44,10 @@ behind p (x ∷ xs) = if eqb (x .emitter) p then behind p xs else x ∷ xs
 -- The emissions from i on.
 abbrev pub emissionsFrom : List ℕ → ℕ → ℕ → List Emission
 emissionsFrom w i k = tab (emissionAt w) i (k - i)
+
+-- None is refused, and `next` is where they end.
+abbrev pub passedTo : ℕ → Judged
+passedTo i = record { verdict = record { sound = true; answer = P.Accepted }; next = i }
 
 -- The emissions of p from i on are judged, for any edges that the routes are of, and where none is refused, `next` is where they end.
 pub record JudgesOwn (h : Head) (R Z w : List ℕ) (i k p : ℕ) (time : SimTime) (r : Judged) : Type 0 where

@@ -3,15 +3,29 @@ use judging::Verdict;
 use state::Answer;
 use state::Head;
 use types::SimTime;
+ghost use mathlib.Core.Path.{_≡_};
 ghost use Prim.Native.Nat.{_*_, _≤_, _<_};
 ghost use lib.ListN.{length};
 ghost use Rattle.judging.specs.Judges.{Judgeable};
-ghost use Rattle.reviewing.specs.Turns.{Replied, JudgesOwn, JudgesReply};
+ghost use Rattle.reviewing.specs.Turns.{Replied, passedTo, JudgesOwn, JudgesReply};
 
 // A verdict of one process's emissions, and where they end.
 pub struct Judged {
     pub verdict: Verdict,
     pub next: usize,
+}
+
+// None of them is refused.
+fn passed(next: usize) -> Judged
+    ensures { λ r. ⌜ r ≡ passedTo next ⌝ }
+{
+    Judged {
+        verdict: Verdict {
+            sound: true,
+            answer: Answer::Accepted,
+        },
+        next: next,
+    }
 }
 
 // 28 to 33 of the emissions from `from` on that are of process p, whose event has the tick `time`.
@@ -32,13 +46,7 @@ fn judge_process<'a>(
     while i < count {
         let e = replies::emission_in(w, 8 * i);
         if e.emitter != p {
-            return Judged {
-                verdict: Verdict {
-                    sound: true,
-                    answer: Answer::Accepted,
-                },
-                next: i,
-            };
+            return passed(i);
         }
         let verdict = judging::judge(head, routes, horizons, e, time);
         if !verdict.sound {
@@ -49,13 +57,7 @@ fn judge_process<'a>(
         }
         i += 1;
     }
-    Judged {
-        verdict: Verdict {
-            sound: true,
-            answer: Answer::Accepted,
-        },
-        next: i,
-    }
+    passed(i)
 }
 
 // "process by process in id order 27 and, for its emissions in turn, 28 to 33": the emissions of a

@@ -20,6 +20,9 @@ mul-emission-in c = search needs
 emission-in-requires : tie.Need-emission-in-requires Inv-loop μ-loop
 emission-in-requires c κs = search needs
 
+passed-requires : tie.Need-passed-requires Inv-loop μ-loop
+passed-requires c κs = search needs
+
 returns : tie.Need-returns Inv-loop μ-loop
 returns c = search (own-other, needs)
 
@@ -52,6 +55,9 @@ loop-again c =
     let start = loop .before .before .before .before in
     own-more (start .args .head) _ _ _ _ _ (start .args .time) _ _ (loop .loop .inv) (turn .loop-test .taken) _ (read .emission-in .ensures) (mine .if1 .left) (judge .judge .result) (judge .judge .ensures) (not-false _ (c .if2 .left))
 
+passed-requires-2 : tie.Need-passed-requires-2 Inv-loop μ-loop
+passed-requires-2 c κs = search needs
+
 returns-3 : tie.Need-returns-3 Inv-loop μ-loop
 returns-3 c = search (own-end, needs)
 
@@ -64,10 +70,12 @@ judge-process-spec =
     loop-holds
     mul-emission-in
     emission-in-requires
+    passed-requires
     returns
     judge-requires
     returns-2
     add-i
     loop-less
     loop-again
+    passed-requires-2
     returns-3)
