@@ -4,6 +4,7 @@ use building::BuildAnswer;
 use input::Next;
 use libc::STDIN_FILENO;
 use reads::ReadAnswer;
+use runtime::Built;
 use runtime::Called;
 use state::Answer;
 use state::Counters;
@@ -12,8 +13,7 @@ use state::Runtime;
 use types::LpId;
 use types::SimDuration;
 use types::SimTime;
-ghost use Prim.Native.Nat.{_+_, _≤_};
-ghost use lib.ListN.{length};
+ghost use Prim.Native.Nat.{_≤_};
 
 // A list of more things is taken for something that cannot be decoded.
 const MOST: u64 = 4096;
@@ -23,50 +23,41 @@ const PLACES: usize = 4096;
 // How many things came where the input could not be decoded: more than a list may have.
 const BROKEN: usize = 4097;
 
-const EMISSION: usize = 8;
-
-const EMISSION_WORDS: usize = 32768;
+const ID: usize = 1;
 
 const ROW: usize = 2;
 
 const ROW_WORDS: usize = 8192;
 
-// What is left between two calls, and whether the input could be decoded up to here.
+const EMISSION: usize = 8;
+
+const EMISSION_WORDS: usize = 32768;
+
+// The most arguments of a call, a reply's emissions apart.
+const ARGS: usize = 7;
+
+const HAND_BACK: u64 = 3;
+
+const FIRST_READ: u64 = 4;
+
+const PLAN: u64 = 8;
+
+// The tag of no call.
+const NONE: u64 = 9;
+
+// What is left between two calls.
 struct Session {
-    whole: bool,
     counters: Counters,
     state: Runtime,
 }
 
-fn broken_off(state: Runtime, counters: Counters) -> Session {
-    Session {
-        whole: false,
-        counters: counters,
-        state: state,
-    }
-}
-
-fn going(state: Runtime, counters: Counters) -> Session {
-    Session {
-        whole: true,
-        counters: counters,
-        state: state,
-    }
-}
-
-// The line of a call is printed.
-fn told(called: Called) -> Session {
-    let answer = called.answer;
-    let state = called.state;
-    let counters = called.counters;
-    lines::print_line(answer, state, counters);
-    going(state, counters)
-}
-
-// The line of a read is printed; all is as it was.
-fn told_reading(answer: ReadAnswer, state: Runtime, counters: Counters) -> Session {
-    lines::print_reading(answer, state, counters);
-    going(state, counters)
+// A call with its arguments, of which each call takes its own; a reply stands apart.
+struct Call {
+    tag: u64,
+    message: Message,
+    horizon: SimTime,
+    budget: u64,
+    mask: u64,
 }
 
 // "of an id word the lower half counts"
@@ -80,118 +71,155 @@ fn id_of(word: u64) -> u32 {
     lower_half(word) as u32
 }
 
-// The number of things that follow.
-fn read_count() -> usize {
+// A number, and so many things of `width` words to the front of these; how many came.
+fn read_list(words: &mut [u64], width: usize) -> usize
+    requires { ⌜ width ≤ 8 ⌝ }
+{
     let Next::Word(count) = input::read_word(STDIN_FILENO) else {
         return BROKEN;
     };
     if MOST < count {
         return BROKEN;
     }
+    let end = width * count as usize;
+    if words.len() < end {
+        return BROKEN;
+    }
+    if input::read_words(STDIN_FILENO, &mut words[..end]) < end {
+        return BROKEN;
+    }
     count as usize
 }
 
-// Of each emission, the ids of its emitter, its source and its destination.
-fn narrow_emission(reply: &mut [u64], at: usize)
-    requires { ⌜ at + 3 ≤ length (now reply) ⌝ }
-{
-    reply[at] = lower_half(reply[at]);
-    reply[at + 1] = lower_half(reply[at + 1]);
-    reply[at + 2] = lower_half(reply[at + 2]);
+// Of an emission's words, the first three are ids: of its emitter, its source and its destination.
+fn narrowed(i: usize, word: u64) -> u64 {
+    if i % EMISSION < 3 {
+        return lower_half(word);
+    }
+    word
 }
 
-fn narrow_emissions(reply: &mut [u64]) {
-    let count = reply.len() / EMISSION;
+fn narrow_emissions(reply: &mut [u64], end: usize) {
     let mut i: usize = 0;
-    while i < count {
-        narrow_emission(reply, EMISSION * i);
+    while i < end {
+        if reply.len() <= i {
+            return;
+        }
+        reply[i] = narrowed(i, reply[i]);
         i += 1;
     }
 }
 
-fn hand_back_reply(state: Runtime, counters: Counters, mask: u64, reply: &mut [u64]) -> Session {
-    if input::read_words(STDIN_FILENO, reply) < reply.len() {
-        return broken_off(state, counters);
+// The emissions of a hand back; how many words they have, and none of another call.
+fn read_reply(tag: u64, reply: &mut [u64]) -> usize {
+    if tag != HAND_BACK {
+        return 0;
     }
-    narrow_emissions(reply);
-    told(runtime::hand_back(state, counters, mask, reply))
-}
-
-// With room for the reply.
-fn hand_back(state: Runtime, counters: Counters, mask: u64, count: usize) -> Session
-    requires { ⌜ count ≤ 4096 ⌝ }
-{
-    let mut reply = [0u64; EMISSION_WORDS];
-    let end = EMISSION * count;
-    hand_back_reply(state, counters, mask, &mut reply[..end])
-}
-
-fn carry_out_hand_back(state: Runtime, counters: Counters) -> Session {
-    let Next::Word(mask) = input::read_word(STDIN_FILENO) else {
-        return broken_off(state, counters);
-    };
-    let count = read_count();
+    let count = read_list(reply, EMISSION);
     if PLACES < count {
-        return broken_off(state, counters);
+        return EMISSION * BROKEN;
     }
-    hand_back(state, counters, mask, count)
+    let end = EMISSION * count;
+    narrow_emissions(reply, end);
+    end
 }
 
-fn add_initial(state: Runtime, counters: Counters) -> Session {
-    let mut args = [0u64; 7];
-    if input::read_words(STDIN_FILENO, &mut args) < 7 {
-        return broken_off(state, counters);
-    }
+fn call_of(tag: u64, args: [u64; ARGS]) -> Call {
+    let a = args[0];
+    let b = args[1];
+    let c = args[2];
     let message = Message {
-        source: LpId(id_of(args[0])),
-        destination: LpId(id_of(args[1])),
-        time: SimTime::from_ticks(args[2], args[3]),
+        source: LpId(id_of(a)),
+        destination: LpId(id_of(b)),
+        time: SimTime::from_ticks(c, args[3]),
         len: args[4],
         p0: args[5],
         p1: args[6],
     };
-    told(runtime::add_initial(state, counters, message))
-}
-
-fn begin(state: Runtime, counters: Counters) -> Session {
-    let mut args = [0u64; 3];
-    if input::read_words(STDIN_FILENO, &mut args) < 3 {
-        return broken_off(state, counters);
+    Call {
+        tag: tag,
+        message: message,
+        horizon: SimTime::from_ticks(a, b),
+        budget: c,
+        mask: a,
     }
-    let horizon = SimTime::from_ticks(args[0], args[1]);
-    told(runtime::begin(state, counters, horizon, args[2]))
 }
 
-// Plan is on no state.
-fn carry_out_plan(state: Runtime, counters: Counters) -> Session {
-    if planning::carry_out_plan() {
-        return going(state, counters);
-    }
-    broken_off(state, counters)
-}
-
-fn carry_out_call(state: Runtime, counters: Counters, tag: u64) -> Session {
+// How many arguments a call has, a reply's emissions apart.
+fn width(tag: u64) -> usize
+    ensures { λ r. ⌜ r ≤ 7 ⌝ }
+{
     match tag {
-        0 => add_initial(state, counters),
-        1 => begin(state, counters),
-        2 => told(runtime::step(state, counters)),
-        3 => carry_out_hand_back(state, counters),
-        4 => told_reading(reads::read_gvt(state, counters), state, counters),
-        5 => told_reading(reads::read_counters(state, counters), state, counters),
-        6 => told_reading(reads::read_pending(state, counters), state, counters),
-        7 => told_reading(reads::read_earliest(state, counters), state, counters),
-        8 => carry_out_plan(state, counters),
-        _ => broken_off(state, counters),
+        0 => 7,
+        1 => 3,
+        HAND_BACK => 1,
+        _ => 0,
     }
 }
 
-fn carry_out_next(s: Session) -> Session {
+fn read_args(tag: u64) -> Call {
+    let mut args = [0u64; ARGS];
+    let end = width(tag);
+    if input::read_words(STDIN_FILENO, &mut args[..end]) < end {
+        return call_of(NONE, args);
+    }
+    call_of(tag, args)
+}
+
+// The next tag. Plan is on no state: it is carried out as it is read.
+fn read_tag() -> u64 {
+    let Next::Word(tag) = input::read_word(STDIN_FILENO) else {
+        return NONE;
+    };
+    if tag == PLAN {
+        if !planning::carry_out_plan() {
+            return NONE;
+        }
+    }
+    tag
+}
+
+fn called(state: Runtime, counters: Counters, call: Call, reply: &[u64]) -> Called {
+    let tag = call.tag;
+    match tag {
+        0 => runtime::add_initial(state, counters, call.message),
+        1 => runtime::begin(state, counters, call.horizon, call.budget),
+        2 => runtime::step(state, counters),
+        _ => runtime::hand_back(state, counters, call.mask, reply),
+    }
+}
+
+fn reading(state: Runtime, counters: Counters, tag: u64) -> ReadAnswer {
+    match tag {
+        FIRST_READ => reads::read_gvt(state, counters),
+        5 => reads::read_counters(state, counters),
+        6 => reads::read_pending(state, counters),
+        _ => reads::read_earliest(state, counters),
+    }
+}
+
+// The line of a call is printed.
+fn told(called: Called) -> Session {
+    let answer = called.answer;
+    let state = called.state;
+    let counters = called.counters;
+    lines::print_line(answer, state, counters);
+    Session {
+        counters: counters,
+        state: state,
+    }
+}
+
+fn carry_out(s: Session, call: Call, reply: &[u64]) -> Session {
     let state = s.state;
     let counters = s.counters;
-    match input::read_word(STDIN_FILENO) {
-        Next::Word(tag) => carry_out_call(state, counters, tag),
-        Next::End => broken_off(state, counters),
+    if call.tag < FIRST_READ {
+        return told(called(state, counters, call, reply));
     }
+    if call.tag < PLAN {
+        lines::print_reading(reading(state, counters, call.tag), state, counters);
+    }
+    s
 }
 
 // A number of calls, and the calls; whether all could be decoded.
@@ -199,13 +227,22 @@ fn carry_out_calls(state: Runtime, counters: Counters) -> bool {
     let Next::Word(count) = input::read_word(STDIN_FILENO) else {
         return false;
     };
-    let mut s = going(state, counters);
+    let mut s = Session {
+        counters: counters,
+        state: state,
+    };
+    let mut reply = [0u64; EMISSION_WORDS];
     let mut left = count;
     while 0 < left {
-        s = carry_out_next(s);
-        if !s.whole {
+        let call = read_args(read_tag());
+        let end = read_reply(call.tag, &mut reply);
+        if PLAN < call.tag {
             return false;
         }
+        if EMISSION_WORDS < end {
+            return false;
+        }
+        s = carry_out(s, call, &reply[..end]);
         left -= 1;
     }
     true
@@ -223,24 +260,8 @@ fn no_counters() -> Counters {
     }
 }
 
-// Builds and carries out the calls. Those of a refused build are passed over.
-fn carry_out_on<'a>(
-    n: u64,
-    lookahead: SimDuration,
-    ids: &'a [u32],
-    sources: &'a [u32],
-    counts: &'a [u64],
-    destinations: &'a [u32],
-) -> bool {
-    let built = runtime::build(
-        n,
-        lookahead,
-        ids,
-        sources,
-        counts,
-        destinations,
-        no_counters(),
-    );
+// Carries out the calls. Those of a refused build are passed over.
+fn carry_out_on(built: Built) -> bool {
     let answer = built.answer;
     if let BuildAnswer::Accepted = answer {
         let state = built.state;
@@ -252,80 +273,52 @@ fn carry_out_on<'a>(
     passing::pass_calls()
 }
 
-fn least(a: usize, b: usize) -> usize
-    ensures { λ r. ⌜ (r ≤ a) × (r ≤ b) ⌝ }
-{
-    if a < b { a } else { b }
-}
-
 // The ids in the words go to the front of ids, as many as there is room for.
 fn narrow(words: &[u64], ids: &mut [u32]) {
-    let count = least(words.len(), ids.len());
     let mut i: usize = 0;
-    while i < count {
+    while i < ids.len() {
+        if words.len() <= i {
+            return;
+        }
         ids[i] = id_of(words[i]);
         i += 1;
     }
 }
 
-// Reads ids by way of the lent words; whether there were as many.
-fn read_ids_through(words: &mut [u64], ids: &mut [u32]) -> bool {
-    if input::read_words(STDIN_FILENO, words) < words.len() {
-        return false;
-    }
-    narrow(words, ids);
-    true
-}
-
 // A number, and so many ids to the front of these; how many came.
 fn read_ids(ids: &mut [u32]) -> usize {
-    let count = read_count();
-    if PLACES < count {
-        return BROKEN;
-    }
     let mut words = [0u64; PLACES];
-    if read_ids_through(&mut words[..count], ids) {
-        return count;
-    }
-    BROKEN
+    let count = read_list(&mut words, ID);
+    narrow(&words, ids);
+    count
 }
 
 // Each row's source and its count go to the fronts of these, as many as there is room for.
 fn split(words: &[u64], sources: &mut [u32], counts: &mut [u64]) {
-    let room = least(sources.len(), counts.len());
-    let count = least(words.len() / ROW, room);
+    let rows = words.len() / ROW;
     let mut i: usize = 0;
-    while i < count {
+    while i < rows {
+        if sources.len() <= i {
+            return;
+        }
+        if counts.len() <= i {
+            return;
+        }
         sources[i] = id_of(words[ROW * i]);
         counts[i] = words[ROW * i + 1];
         i += 1;
     }
 }
 
-// Reads rows by way of the lent words; whether there were as many.
-fn read_rows_through(words: &mut [u64], sources: &mut [u32], counts: &mut [u64]) -> bool {
-    if input::read_words(STDIN_FILENO, words) < words.len() {
-        return false;
-    }
-    split(words, sources, counts);
-    true
-}
-
 // A number, and so many rows to the fronts of these; how many came.
 fn read_rows(sources: &mut [u32], counts: &mut [u64]) -> usize {
-    let count = read_count();
-    if PLACES < count {
-        return BROKEN;
-    }
     let mut words = [0u64; ROW_WORDS];
-    let end = ROW * count;
-    if read_rows_through(&mut words[..end], sources, counts) {
-        return count;
-    }
-    BROKEN
+    let count = read_list(&mut words, ROW);
+    split(&words, sources, counts);
+    count
 }
 
-// Reads the rows and the destinations of a build whose ids are read, and carries the list out.
+// Reads the rows and the destinations of a build whose ids are read, builds, and carries the list out.
 fn carry_out_topology<'a>(n: u64, lookahead: SimDuration, ids: &'a [u32]) -> bool {
     let mut sources = [0u32; PLACES];
     let mut counts = [0u64; PLACES];
@@ -338,14 +331,15 @@ fn carry_out_topology<'a>(n: u64, lookahead: SimDuration, ids: &'a [u32]) -> boo
     if PLACES < edges {
         return false;
     }
-    carry_out_on(
+    carry_out_on(runtime::build(
         n,
         lookahead,
         ids,
         &sources[..rows],
         &counts[..rows],
         &destinations[..edges],
-    )
+        no_counters(),
+    ))
 }
 
 // A list of calls; whether all of it could be decoded.

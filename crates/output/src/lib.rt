@@ -1,16 +1,19 @@
-// Text for standard output, gathered in a buffer that the caller lends. `at` is how many bytes of
-// the buffer are in use; what each function puts there is proved, what is written to a file cannot be
-// said by a contract.
+// Text for standard output, gathered in a buffer of io::buffer that the caller lends. `at` is how many
+// bytes of the buffer are in use; what each function puts there is proved, what is written to a file
+// cannot be said by a contract.
 use libc::STDOUT_FILENO;
 use types::SimTime;
 ghost use mathlib.Core.Path.{_≡_};
-ghost use mathlib.Core.List.{_++_};
+ghost use mathlib.Core.List.{_++_, _∷_, []};
 ghost use Prim.Native.Nat.{_+_, _≤_};
 ghost use lib.ListN.{length, take};
 ghost use Rattle.io.specs.Counts.{Counts};
 ghost use Rattle.io.specs.Digits.{digits, Fewest};
 ghost use Rattle.types.specs.Value.{value};
-ghost use Rattle.output.specs.Gathered.{Puts, PutsNumber};
+ghost use Rattle.output.specs.Gathered.{Puts, PutsNumber, PutsNext};
+
+// The bytes of a buffer.
+pub const ROOM: usize = 4096;
 
 // The hexadecimal digits of a tick, in lower case and without leading zeros, at the start of out;
 // how many there are.
@@ -41,7 +44,7 @@ fn join(first: &[u8], second: &[u8; 16], out: &mut [u8]) -> usize
 }
 
 // The text goes behind what is there. Where it does not fit, what is there is written first.
-pub fn put(out: &mut [u8], at: usize, text: &[u8]) -> usize
+fn gather(out: &mut [u8], at: usize, text: &[u8]) -> usize
     ensures { λ r. ⌜ Puts (now (out .entry)) at (now (text .entry)) (now (out .exit)) r ⌝ }
 {
     if out.len() < at {
@@ -65,7 +68,21 @@ fn put_anew(out: &mut [u8], text: &[u8]) -> usize
     bytes::copy(text, out)
 }
 
-pub fn put_decimal(out: &mut [u8], at: usize, n: u64) -> usize
+// A buffer is lent as an array, which is one reference: each call of its users is cheaper to check.
+pub fn put(out: &mut [u8; ROOM], at: usize, text: &[u8]) -> usize
+    ensures { λ r. ⌜ Puts (now (out .entry)) at (now (text .entry)) (now (out .exit)) r ⌝ }
+{
+    gather(out, at, text)
+}
+
+pub fn put_byte(out: &mut [u8; ROOM], at: usize, b: u8) -> usize
+    ensures { λ r. ⌜ Puts (now (out .entry)) at (b ∷ []) (now (out .exit)) r ⌝ }
+{
+    let text = [b];
+    put(out, at, &text)
+}
+
+pub fn put_decimal(out: &mut [u8; ROOM], at: usize, n: u64) -> usize
     ensures { λ r. ⌜ PutsNumber 10 n (now (out .entry)) at (now (out .exit)) r ⌝ }
 {
     let mut text = [0u8; 20];
@@ -73,7 +90,7 @@ pub fn put_decimal(out: &mut [u8], at: usize, n: u64) -> usize
     put(out, at, &text[..k])
 }
 
-pub fn put_tick(out: &mut [u8], at: usize, t: SimTime) -> usize
+pub fn put_tick(out: &mut [u8; ROOM], at: usize, t: SimTime) -> usize
     ensures { λ r. ⌜ PutsNumber 16 (value t) (now (out .entry)) at (now (out .exit)) r ⌝ }
 {
     let mut text = [0u8; 32];
@@ -81,10 +98,31 @@ pub fn put_tick(out: &mut [u8], at: usize, t: SimTime) -> usize
     put(out, at, &text[..k])
 }
 
-// Writes what is there. Nothing is left: the next `at` is 0.
-pub fn flush(out: &[u8], at: usize) -> bool {
+// The next number of a list, behind what separates it.
+pub fn put_next(out: &mut [u8; ROOM], at: usize, separator: u8, n: u64) -> usize
+    ensures { λ r. ⌜ PutsNext separator 10 n (now (out .entry)) at (now (out .exit)) r ⌝ }
+{
+    let end = put_byte(out, at, separator);
+    put_decimal(out, end, n)
+}
+
+pub fn put_next_tick(out: &mut [u8; ROOM], at: usize, separator: u8, t: SimTime) -> usize
+    ensures { λ r. ⌜ PutsNext separator 16 (value t) (now (out .entry)) at (now (out .exit)) r ⌝ }
+{
+    let end = put_byte(out, at, separator);
+    put_tick(out, end, t)
+}
+
+// Writes what is there.
+fn write(out: &[u8], at: usize) -> bool {
     if at <= out.len() {
         return io::write_all(STDOUT_FILENO, &out[..at]);
     }
     false
+}
+
+// Ends the line and writes what is there. Nothing is left: the next `at` is 0.
+pub fn end_line(out: &mut [u8; ROOM], at: usize) -> bool {
+    let end = put_byte(out, at, b'\n');
+    write(out, end)
 }

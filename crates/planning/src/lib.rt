@@ -1,5 +1,6 @@
 // A plan of docs/CALLS.md: read from standard input, carried out, and its line printed.
 use libc::STDIN_FILENO;
+use output::ROOM;
 use partition::PlanAnswer;
 use types::SimDuration;
 ghost use Prim.Native.Nat.{_≤_};
@@ -9,62 +10,79 @@ const MOST: u64 = 4096;
 
 const MOST_WORDS: usize = 8192;
 
-// A text and a number behind it.
-fn put_with(out: &mut [u8], at: usize, text: &[u8], n: u64) -> usize {
-    let end = output::put(out, at, text);
-    output::put_decimal(out, end, n)
+// Document 01's number of a refusal; 0 for a plan.
+fn number_of(answer: PlanAnswer) -> u64 {
+    match answer {
+        PlanAnswer::Planned(_) => 0,
+        PlanAnswer::InvalidPartitionCount(_) => 1,
+        PlanAnswer::InvalidLookahead => 2,
+        PlanAnswer::EmptyPartitionEntities => 34,
+        PlanAnswer::DuplicatePartitionEntity(_, _) => 35,
+        PlanAnswer::TooManyEntities => 36,
+    }
 }
 
-fn put_answer(out: &mut [u8], at: usize, answer: PlanAnswer) -> usize {
+fn put_number(out: &mut [u8; ROOM], number: u64) -> usize {
+    if number == 0 {
+        return output::put(out, 0, b"planned");
+    }
+    let end = output::put(out, 0, b"refused");
+    output::put_next(out, end, b' ', number)
+}
+
+fn put_entity(
+    out: &mut [u8; ROOM],
+    at: usize,
+    separator: u8,
+    index: u64,
+    generation: u64,
+) -> usize {
+    let end = output::put_next(out, at, b' ', index);
+    output::put_next(out, end, separator, generation)
+}
+
+fn put_answer(out: &mut [u8; ROOM], answer: PlanAnswer) -> usize {
+    let end = put_number(out, number_of(answer));
     match answer {
-        PlanAnswer::Planned(count) => put_with(out, at, b"planned ", count),
-        PlanAnswer::InvalidPartitionCount(count) => put_with(out, at, b"refused 1 ", count),
-        PlanAnswer::InvalidLookahead => output::put(out, at, b"refused 2"),
-        PlanAnswer::EmptyPartitionEntities => output::put(out, at, b"refused 34"),
+        PlanAnswer::Planned(count) | PlanAnswer::InvalidPartitionCount(count) => output::put_next(
+            out,
+            end,
+            b' ',
+            count,
+        ),
         PlanAnswer::DuplicatePartitionEntity(index, generation) => {
-            let end = put_with(out, at, b"refused 35 ", index);
-            put_with(out, end, b" ", generation)
+            put_entity(out, end, b' ', index, generation)
         }
-        PlanAnswer::TooManyEntities => output::put(out, at, b"refused 36"),
+        _ => end,
     }
 }
 
 // The bar behind the answer. A list of no places leaves its space.
-fn put_bar(out: &mut [u8], at: usize, places: usize) -> usize {
+fn put_bar(out: &mut [u8; ROOM], at: usize, places: usize) -> usize {
+    let end = output::put(out, at, b" |");
     if places == 0 {
-        return output::put(out, at, b" | ");
+        return output::put_byte(out, end, b' ');
     }
-    output::put(out, at, b" |")
-}
-
-fn put_entity(out: &mut [u8], at: usize, index: u64, generation: u64) -> usize {
-    let end = put_with(out, at, b" ", index);
-    put_with(out, end, b":", generation)
+    end
 }
 
 // The entities of the lent list, each behind a space.
-fn put_list(out: &mut [u8], at: usize, lent: &[u64]) -> usize {
+fn put_list(out: &mut [u8; ROOM], at: usize, lent: &[u64]) -> usize {
     let count = lent.len() / 2;
-    let mut end = at;
+    let mut end = put_bar(out, at, count);
     let mut k: usize = 0;
     while k < count {
-        end = put_entity(out, end, lent[k * 2], lent[k * 2 + 1]);
+        end = put_entity(out, end, b':', lent[k * 2], lent[k * 2 + 1]);
         k += 1;
     }
     end
 }
 
-fn print_line_through(out: &mut [u8], answer: PlanAnswer, lent: &[u64]) {
-    let mut end = put_answer(out, 0, answer);
-    end = put_bar(out, end, lent.len() / 2);
-    end = put_list(out, end, lent);
-    end = output::put(out, end, b"\n");
-    output::flush(out, end);
-}
-
 fn print_line(answer: PlanAnswer, lent: &[u64]) {
     let mut out = io::buffer();
-    print_line_through(&mut out, answer, lent);
+    let mut end = put_answer(&mut out, answer);
+    end = put_list(&mut out, end, lent);
+    output::end_line(&mut out, end);
 }
 
 // Reads the entities, plans, and prints the line. False where the input breaks off.

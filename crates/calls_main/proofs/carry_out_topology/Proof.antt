@@ -29,8 +29,8 @@ returns-2 c = search needs
 array-share-prefix-sources : tie.Need-array-share-prefix-sources
 array-share-prefix-sources c = search needs
 
-slice-aggregate-carry-out-on : tie.Need-slice-aggregate-carry-out-on
-slice-aggregate-carry-out-on c =
+slice-aggregate-build : tie.Need-slice-aggregate-build
+slice-aggregate-build c =
     let q = c .before .before .before .before .before .before .before .before .read-rows in
     let k = q .kept .0 in
     sym (length-take-le (q .result) (q .last .0) (omega arith))
@@ -38,8 +38,8 @@ slice-aggregate-carry-out-on c =
 array-share-prefix-counts : tie.Need-array-share-prefix-counts
 array-share-prefix-counts c = search needs
 
-slice-aggregate-carry-out-on-2 : tie.Need-slice-aggregate-carry-out-on-2
-slice-aggregate-carry-out-on-2 c =
+slice-aggregate-build-2 : tie.Need-slice-aggregate-build-2
+slice-aggregate-build-2 c =
     let q = c .before .before .before .before .before .before .before .before .before .read-rows in
     let k = q .kept .1 .0 in
     sym (length-take-le (q .result) (q .last .1 .0) (omega arith))
@@ -47,11 +47,17 @@ slice-aggregate-carry-out-on-2 c =
 array-share-prefix-destinations : tie.Need-array-share-prefix-destinations
 array-share-prefix-destinations c = search needs
 
-slice-aggregate-carry-out-on-3 : tie.Need-slice-aggregate-carry-out-on-3
-slice-aggregate-carry-out-on-3 c =
+slice-aggregate-build-3 : tie.Need-slice-aggregate-build-3
+slice-aggregate-build-3 c =
     let q = c .before .before .before .before .before .read-ids in
     let k = q .kept .0 in
     sym (length-take-le (q .result) (q .last .0) (omega arith))
+
+no-counters-requires : tie.Need-no-counters-requires
+no-counters-requires c κs = search needs
+
+build-requires : tie.Need-build-requires
+build-requires c κs = search needs
 
 carry-out-on-requires : tie.Need-carry-out-on-requires
 carry-out-on-requires c κs = search needs
@@ -71,10 +77,12 @@ carry-out-topology-spec =
     read-ids-requires
     returns-2
     array-share-prefix-sources
-    slice-aggregate-carry-out-on
+    slice-aggregate-build
     array-share-prefix-counts
-    slice-aggregate-carry-out-on-2
+    slice-aggregate-build-2
     array-share-prefix-destinations
-    slice-aggregate-carry-out-on-3
+    slice-aggregate-build-3
+    no-counters-requires
+    build-requires
     carry-out-on-requires
     returns-3)

@@ -1,22 +1,25 @@
-use borrow.Author.Needs.{needs}
 use native.Mathlib.Omega.{arith}
+use mathlib.Core.Path.{_≡_}
 use Prim.Native.Nat.{_-_}
-use mathlib.Core.Path.{_≡_, refl, _∙_}
-use lib.ListN.{length, length-set}
+use lib.ListN.{length}
+use borrow.Author.Needs.{needs}
 use Rattle.calls_main.proofs.narrow.Statement.{statement}
 use Rattle.calls_main.proofs.narrow.Tie as tie
 
 abbrev Inv-loop : tie.InvT-loop
-Inv-loop words ids₀ count i₀ ids i = length ids ≡ length ids₀
+Inv-loop words ids₀ i₀ ids i = length ids ≡ length ids₀
 
 abbrev μ-loop : tie.MeasureT-loop
-μ-loop words ids₀ count i₀ ids i = count - i
-
-least-requires : tie.Need-least-requires Inv-loop μ-loop
-least-requires c κs = search needs
+μ-loop words ids₀ i₀ ids i = length ids₀ - i
 
 loop-holds : tie.Need-loop-holds Inv-loop μ-loop
-loop-holds c = refl
+loop-holds c = search needs
+
+same-length : tie.Need-same-length Inv-loop μ-loop
+same-length c = search needs
+
+returns : tie.Need-returns Inv-loop μ-loop
+returns c = tt
 
 mul-id-of : tie.Need-mul-id-of Inv-loop μ-loop
 mul-id-of c = omega arith
@@ -40,13 +43,13 @@ loop-less : tie.Need-loop-less Inv-loop μ-loop
 loop-less c = omega arith
 
 loop-again : tie.Need-loop-again Inv-loop μ-loop
-loop-again c = simp length-set (c .before .before .before .loop .inv)
+loop-again c = search needs
 
-same-length : tie.Need-same-length Inv-loop μ-loop
-same-length c = c .before .loop .inv
+same-length-2 : tie.Need-same-length-2 Inv-loop μ-loop
+same-length-2 c = search needs
 
-returns : tie.Need-returns Inv-loop μ-loop
-returns c = tt
+returns-2 : tie.Need-returns-2 Inv-loop μ-loop
+returns-2 c = tt
 
 pub narrow-spec : {M : Type 1} → statement M
 narrow-spec =
@@ -54,8 +57,9 @@ narrow-spec =
     (tie.spec
     Inv-loop
     μ-loop
-    least-requires
     loop-holds
+    same-length
+    returns
     mul-id-of
     shared-slice-read-id-of
     id-of-requires
@@ -64,5 +68,5 @@ narrow-spec =
     add-i
     loop-less
     loop-again
-    same-length
-    returns)
+    same-length-2
+    returns-2)

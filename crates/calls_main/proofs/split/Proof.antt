@@ -1,25 +1,37 @@
-use borrow.Author.Needs.{needs}
 use native.Mathlib.Omega.{arith}
+use mathlib.Core.Path.{_≡_}
 use Prim.Native.Nat.{_-_}
-use mathlib.Core.Path.{_≡_, refl, _∙_}
-use lib.ListN.{length, length-set}
+use lib.ListN.{length}
+use borrow.Author.Needs.{needs}
 use Rattle.calls_main.proofs.split.Statement.{statement}
 use Rattle.calls_main.proofs.split.Tie as tie
 
 abbrev Inv-loop : tie.InvT-loop
-Inv-loop words sources₀ counts₀ room count i₀ sources counts i = (length sources ≡ length sources₀) × (length counts ≡ length counts₀)
+Inv-loop words sources₀ counts₀ rows i₀ sources counts i = (length sources ≡ length sources₀) × (length counts ≡ length counts₀)
 
 abbrev μ-loop : tie.MeasureT-loop
-μ-loop words sources₀ counts₀ room count i₀ sources counts i = count - i
-
-least-requires : tie.Need-least-requires Inv-loop μ-loop
-least-requires c κs = search needs
-
-least-requires-2 : tie.Need-least-requires-2 Inv-loop μ-loop
-least-requires-2 c κs = search needs
+μ-loop words sources₀ counts₀ rows i₀ sources counts i = rows - i
 
 loop-holds : tie.Need-loop-holds Inv-loop μ-loop
-loop-holds c = (refl, refl)
+loop-holds c = search needs
+
+same-length : tie.Need-same-length Inv-loop μ-loop
+same-length c = search needs
+
+same-length-2 : tie.Need-same-length-2 Inv-loop μ-loop
+same-length-2 c = search needs
+
+returns : tie.Need-returns Inv-loop μ-loop
+returns c = tt
+
+same-length-3 : tie.Need-same-length-3 Inv-loop μ-loop
+same-length-3 c = search needs
+
+same-length-4 : tie.Need-same-length-4 Inv-loop μ-loop
+same-length-4 c = search needs
+
+returns-2 : tie.Need-returns-2 Inv-loop μ-loop
+returns-2 c = tt
 
 mul-id-of : tie.Need-mul-id-of Inv-loop μ-loop
 mul-id-of c = omega arith
@@ -64,18 +76,16 @@ loop-less : tie.Need-loop-less Inv-loop μ-loop
 loop-less c = omega arith
 
 loop-again : tie.Need-loop-again Inv-loop μ-loop
-loop-again c =
-    let l = c .before .before .before .before .loop in
-    (simp length-set (l .inv .0), simp length-set (l .inv .1))
+loop-again c = search needs
 
-same-length : tie.Need-same-length Inv-loop μ-loop
-same-length c = c .before .loop .inv .0
+same-length-5 : tie.Need-same-length-5 Inv-loop μ-loop
+same-length-5 c = search needs
 
-same-length-2 : tie.Need-same-length-2 Inv-loop μ-loop
-same-length-2 c = c .before .loop .inv .1
+same-length-6 : tie.Need-same-length-6 Inv-loop μ-loop
+same-length-6 c = search needs
 
-returns : tie.Need-returns Inv-loop μ-loop
-returns c = tt
+returns-3 : tie.Need-returns-3 Inv-loop μ-loop
+returns-3 c = tt
 
 pub split-spec : {M : Type 1} → statement M
 split-spec =
@@ -83,9 +93,13 @@ split-spec =
     (tie.spec
     Inv-loop
     μ-loop
-    least-requires
-    least-requires-2
     loop-holds
+    same-length
+    same-length-2
+    returns
+    same-length-3
+    same-length-4
+    returns-2
     mul-id-of
     mul-id-of-2
     shared-slice-read-id-of
@@ -101,6 +115,6 @@ split-spec =
     add-i
     loop-less
     loop-again
-    same-length
-    same-length-2
-    returns)
+    same-length-5
+    same-length-6
+    returns-3)

@@ -24,9 +24,6 @@ slice-aggregate-put c = sym (length-take-le (2 * c .before .before .least .resul
 put-requires : tie.Need-put-requires
 put-requires c κs = search needs
 
-same-length : tie.Need-same-length
-same-length c = search needs
-
 returns : tie.Need-returns
 returns c = search needs
 
@@ -40,5 +37,4 @@ put-bytes-spec =
     array-share-prefix-text
     slice-aggregate-put
     put-requires
-    same-length
     returns)

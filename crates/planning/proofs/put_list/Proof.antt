@@ -1,19 +1,20 @@
 use native.Mathlib.Omega.{arith}
 use borrow.Author.Needs.{needs}
 use Prim.Native.Nat.{_-_}
-use mathlib.Core.Path.{_≡_, refl, _∙_}
-use lib.ListN.{length}
 use Rattle.planning.proofs.put_list.Statement.{statement}
 use Rattle.planning.proofs.put_list.Tie as tie
 
 abbrev Inv-loop : tie.InvT-loop
-Inv-loop out₀ at lent count end₀ k₀ out end k = length out ≡ length out₀
+Inv-loop out₀ at lent count end₀ k₀ out end k = Unit {0}
 
 abbrev μ-loop : tie.MeasureT-loop
 μ-loop out₀ at lent count end₀ k₀ out end k = count - k
 
+put-bar-requires : tie.Need-put-bar-requires Inv-loop μ-loop
+put-bar-requires c κs = search needs
+
 loop-holds : tie.Need-loop-holds Inv-loop μ-loop
-loop-holds c = refl
+loop-holds c = tt
 
 mul-put-entity : tie.Need-mul-put-entity Inv-loop μ-loop
 mul-put-entity c = omega arith
@@ -46,10 +47,7 @@ loop-less : tie.Need-loop-less Inv-loop μ-loop
 loop-less c = omega arith
 
 loop-again : tie.Need-loop-again Inv-loop μ-loop
-loop-again c = c .before .before .put-entity .kept .0 ∙ c .before .before .before .before .before .before .before .loop .inv
-
-same-length : tie.Need-same-length Inv-loop μ-loop
-same-length c = c .before .loop .inv
+loop-again c = tt
 
 returns : tie.Need-returns Inv-loop μ-loop
 returns c = tt
@@ -60,6 +58,7 @@ put-list-spec =
     (tie.spec
     Inv-loop
     μ-loop
+    put-bar-requires
     loop-holds
     mul-put-entity
     mul-put-entity-2
@@ -72,5 +71,4 @@ put-list-spec =
     add-k
     loop-less
     loop-again
-    same-length
     returns)

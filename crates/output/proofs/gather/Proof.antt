@@ -3,8 +3,8 @@ use native.Mathlib.Omega.{arith}
 use lib.Seq.{length-take-le}
 use Rattle.output.proofs.Behind.{put-behind, put-otherwise}
 use borrow.Author.Needs.{needs}
-use Rattle.output.proofs.put.Statement.{statement}
-use Rattle.output.proofs.put.Tie as tie
+use Rattle.output.proofs.gather.Statement.{statement}
+use Rattle.output.proofs.gather.Tie as tie
 
 put-anew-requires : tie.Need-put-anew-requires
 put-anew-requires c κs = search needs
@@ -15,7 +15,7 @@ same-length c = search needs
 returns : tie.Need-returns
 returns c =
     let e = c .before .before .before .before .before .before .before .args in
-    put-otherwise (e .out .now) (e .at) (e .text .now) _ _ (omega arith) (c .before .before .put-anew .ensures)
+    put-otherwise (e .out .now) (e .at) (e .text .now) _ _ (omega arith) (search needs) (c .before .before .put-anew .ensures)
 
 sub-if2 : tie.Need-sub-if2
 sub-if2 c = search needs
@@ -38,7 +38,7 @@ same-length-2 c = search needs
 returns-2 : tie.Need-returns-2
 returns-2 c =
     let e = c .before .before .before .before .before .before .before .before .before .before .args in
-    put-otherwise (e .out .now) (e .at) (e .text .now) _ _ (omega arith) (c .before .before .put-anew2 .ensures)
+    put-otherwise (e .out .now) (e .at) (e .text .now) _ _ (omega arith) (search needs) (c .before .before .put-anew2 .ensures)
 
 sub-copy : tie.Need-sub-copy
 sub-copy c = search needs
@@ -64,8 +64,8 @@ returns-3 c =
     let q = c .before .before .copy in
     put-behind (e .out .now) (e .at) (e .text .now) (q .last .1 .0) (q .result) (omega arith) (omega arith) (q .ensures .0) (q .ensures .1) (q .kept .1 .0)
 
-pub put-spec : {M : Type 1} → statement M
-put-spec =
+pub gather-spec : {M : Type 1} → statement M
+gather-spec =
     tie.close
     (tie.spec
     put-anew-requires
