@@ -11,13 +11,13 @@ ghost use Rattle.state.specs.View.{messageOf};
 ghost use Rattle.decoding.specs.Decode.{messageAt, decode, size, Sizes};
 
 // The tags.
-pub const ADD_INITIAL: u64 = 0;
+const ADD_INITIAL: u64 = 0;
 
 pub const BEGIN: u64 = 1;
 
 pub const STEP: u64 = 2;
 
-pub const HAND_BACK: u64 = 3;
+const HAND_BACK: u64 = 3;
 
 // How many words a call takes that should have so many, or 0 if it breaks off.
 fn fitting(words: &[u64], at: usize, count: usize) -> usize
