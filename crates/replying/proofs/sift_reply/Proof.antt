@@ -75,7 +75,6 @@ use Rattle.replying.proofs.sift_reply as f
 use Rattle.replying.proofs.sift_reply.Statement as stated
 use Rattle.replying.proofs.sift_reply.Code as code
 use Rattle.replying.proofs.sift_reply.Code.Mir as m
-
 mod Locals
 
 abbrev Arg : Type 0
