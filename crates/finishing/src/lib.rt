@@ -10,28 +10,53 @@ ghost use mathlib.Core.Path.{_≡_};
 ghost use Prim.Native.Nat.{_+_, _*_, _≤_, _<_};
 ghost use lib.ListN.{length};
 ghost use Rattle.state.specs.Lent.{Lent};
-ghost use Rattle.finishing.specs.Finishes.{LastWord, TakesQueued, Finishes};
+ghost use Rattle.finishing.specs.Finishes.{refusalOf, Accepts, Fits, LastWord, TakesQueued, Commits, Finishes};
 
 // The largest count, and the largest next sequence number.
 const MOST: u64 = 18446744073709551615;
 
 const MOST_PENDING: usize = 512;
 
-// What 27 to 33 say of the reply.
-fn last_word(a: Sifted) -> Verdict
-    ensures { λ r. ⌜ LastWord a r ⌝ }
+// 27 of a process that failed, then 19 and 18; Accepted where none refuses.
+fn refusal(failed: u64, next: u64, pending: usize, emitted: usize) -> Answer
+    requires { ⌜ pending ≤ 512 ⌝ }
+    ensures { λ r. ⌜ r ≡ refusalOf failed next pending emitted ⌝ }
+{
+    if failed < 64 {
+        return Answer::HandlerFailed(failed);
+    }
+    if MOST - next < emitted as u64 {
+        return Answer::EventSequenceOverflow;
+    }
+    if MOST_PENDING - pending < emitted {
+        return Answer::QueueFull;
+    }
+    Answer::Accepted
+}
+
+fn is_accepted(answer: Answer) -> bool
+    ensures { λ r. ⌜ Accepts answer r ⌝ }
+{
+    if let Answer::Accepted = answer {
+        return true;
+    }
+    false
+}
+
+// What 27 to 33 say of the reply, and then 19 and 18.
+fn last_word(a: Sifted, next: u64, pending: usize, emitted: usize) -> Verdict
+    requires { ⌜ pending ≤ 512 ⌝ }
+    ensures { λ r. ⌜ LastWord a next pending emitted r ⌝ }
 {
     let so_far = a.verdict;
     if !so_far.sound {
         return so_far;
     }
-    if a.failed < 64 {
-        return Verdict {
-            sound: false,
-            answer: Answer::HandlerFailed(a.failed),
-        };
+    let answer = refusal(a.failed, next, pending, emitted);
+    Verdict {
+        sound: is_accepted(answer),
+        answer: answer,
     }
-    so_far
 }
 
 // "everything is queued in list order": the pending words are those of the desk; the batch is handled
@@ -56,6 +81,26 @@ fn take_queued(
     h
 }
 
+// A round that nothing refuses: counted, taken from the desk and concluded.
+fn commit<'a>(
+    head: Head,
+    counters: Counters,
+    edges: &'a [u64],
+    pending: &mut [u64],
+    horizons: &mut [u64],
+    batch: &mut [u64],
+    words: &'a [u64],
+    remote: u64,
+    emitted: usize,
+) -> After
+    requires { ⌜ Lent head (now edges) (now pending) (now horizons) (now batch) × (0 < head .batch) × (length (now words) ≡ 4864) × Fits (head .next) (head .pending) emitted ⌝ }
+    ensures { λ r. ⌜ Commits head counters (now (edges .entry)) (now (pending .entry)) (now (horizons .entry)) (now (batch .entry)) (now (words .entry)) remote emitted r (now (pending .exit)) (now (horizons .exit)) (now (batch .exit)) ⌝ }
+{
+    let c = concluding::count_round(counters, head.batch as u64, emitted as u64, remote);
+    let h = take_queued(head, pending, batch, words, emitted);
+    concluding::conclude(h, c, edges, pending, horizons)
+}
+
 pub fn finish<'a>(
     head: Head,
     counters: Counters,
@@ -70,18 +115,20 @@ pub fn finish<'a>(
     requires { ⌜ Lent head (now edges) (now pending) (now horizons) (now batch) × (0 < head .batch) × (length (now words) ≡ 4864) ⌝ }
     ensures { λ r. ⌜ Finishes head counters (now (edges .entry)) (now (pending .entry)) (now (horizons .entry)) (now (batch .entry)) (now (words .entry)) a emitted r (now (pending .exit)) (now (horizons .exit)) (now (batch .exit)) ⌝ }
 {
-    let verdict = last_word(a);
-    if !verdict.sound {
-        let answer = verdict.answer;
-        return concluding::lose(answer, head, counters, batch);
+    let verdict = last_word(a, head.next, head.pending, emitted);
+    if verdict.sound {
+        return commit(
+            head,
+            counters,
+            edges,
+            pending,
+            horizons,
+            batch,
+            words,
+            a.remote,
+            emitted,
+        );
     }
-    if MOST - head.next < emitted as u64 {
-        return concluding::lose(Answer::EventSequenceOverflow, head, counters, batch);
-    }
-    if MOST_PENDING - head.pending < emitted {
-        return concluding::lose(Answer::QueueFull, head, counters, batch);
-    }
-    let c = concluding::count_round(counters, head.batch as u64, emitted as u64, a.remote);
-    let h = take_queued(head, pending, batch, words, emitted);
-    concluding::conclude(h, c, edges, pending, horizons)
+    let answer = verdict.answer;
+    concluding::lose(answer, head, counters, batch)
 }

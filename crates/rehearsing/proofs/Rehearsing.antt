@@ -28,8 +28,8 @@ use Rattle.building.proofs.Judging.{refusals, refusing}
 use Rattle.building.proofs.Laying.{writable}
 use Rattle.rehearsing.specs.declared.Ran.{Ran}
 use Rattle.rehearsing.specs.declared.Rehearsed.{Rehearsed}
-use Rattle.rehearsing.specs.Runs.{Runs}
-use Rattle.rehearsing.specs.Rehearses.{Startable, noneCounted, RehearsesBuilt, Rehearses}
+use Rattle.rehearsing.specs.Runs.{noneCounted, Runs}
+use Rattle.rehearsing.specs.Rehearses.{Startable, RehearsesBuilt, Rehearses}
 
 -- What was laid out may be lent.
 module _ (n L : ℕ) (ss cs ds : List ℕ) (t : Startable n L ss cs ds) (w E : List ℕ) (h : Head) (l : LaysOut n L ss cs ds w E h) where
@@ -42,7 +42,7 @@ module _ (n L : ℕ) (ss cs ds : List ℕ) (t : Startable n L ss cs ds) (w E : L
     passes = ap foreign (l .state [] (zeroes 4096) (zeroes 512) 128) ∙ t .passes;
   }
 
-  pub built-rehearsed : (u : List ℕ) (r : Ran) (E′ Q′ Z′ B′ : List ℕ) → Runs h noneCounted E (zeroes 4096) (zeroes 128) (zeroes 512) u r E′ Q′ Z′ B′
+  pub built-rehearsed : (u : List ℕ) (r : Ran) (E′ Q′ Z′ B′ : List ℕ) → Runs h E (zeroes 4096) (zeroes 128) (zeroes 512) u r E′ Q′ Z′ B′
       → RehearsesBuilt n L ss cs ds u (record { answer = P.Accepted; state = record { edges = E′; pending = Q′; horizons = Z′; batch = B′; head = r .head }; counters = r .counters; calls = r .calls })
   built-rehearsed u r E′ Q′ Z′ B′ g = record {
     answered = refl;
@@ -74,11 +74,11 @@ module _ (n L : ℕ) (ids ss cs ds : List ℕ) (r : BuildAnswer) (j : Judges n L
       refused = λ why y. never why (sym y ∙ g .answered);
     }
 
-  pub turned-away : (w : List ℕ) (h : Head) → h ≡ noHead → OneOf refusals (tagOf the-type r)
-      → Rehearses a w (record { answer = r; state = record { edges = zeroes 2048; pending = zeroes 4096; horizons = zeroes 128; batch = zeroes 512; head = h }; counters = noneCounted; calls = 0 })
-  turned-away w h e o = refusing r o (λ why x. record {
-    answered = λ d. j .of-counters d;
+  pub turned-away : (w : List ℕ) (h : Head) (k : Counters) → h ≡ noHead → k ≡ noneCounted → OneOf refusals (tagOf the-type r)
+      → Rehearses a w (record { answer = r; state = record { edges = zeroes 2048; pending = zeroes 4096; horizons = zeroes 128; batch = zeroes 512; head = h }; counters = k; calls = 0 })
+  turned-away w h k e d o = refusing r o (λ why x. record {
+    answered = λ x. j .of-counters x;
     leaves = λ y. never why (sym x ∙ y);
     demanded = λ y. never why (sym x ∙ y);
-    refused = λ _ _. rw e;
+    refused = λ _ _. rw (e, d);
   })

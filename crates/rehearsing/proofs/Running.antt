@@ -1,6 +1,5 @@
 -- A run through the words: what the calls still ahead make of the state at hand is what all calls make of the state given.
 use mathlib.Core.Path.{_≡_, refl, sym, ap, _∙_}
-use mathlib.Core.Bool.{true, false}
 use mathlib.Core.List.{List, [], _∷_}
 use Prim.Native.Nat.{ℕ, zero, suc, _+_, _-_, _≤_, _<_}
 use native.Mathlib.Omega.{arith}
@@ -10,16 +9,16 @@ use Rattle.rules.specs.State.{State}
 use Rattle.rules.specs.Rows.{Out}
 use Rattle.rules.specs.Calls.{Call, rule}
 use Rattle.rules.specs.History.{History, onward, tell}
-use Rattle.rules.proofs.Tests.{not-both}
 use Rattle.state.specs.declared.Head.{Head}
 use Rattle.state.specs.declared.Counters.{Counters}
+use Rattle.state.specs.declared.After.{After}
 use Rattle.state.specs.View.{view, countersOf}
 use Rattle.state.specs.Lent.{Lent}
-use Rattle.calls.specs.declared.Carried.{Carried}
-use Rattle.calls.specs.Decode.{Decoded, Nothing, Decodes, decode, size, followed, decodeFrom, decodeAll}
-use Rattle.calls.specs.Carries.{Carries}
-use Rattle.rehearsing.specs.Runs.{Runs}
-use Rattle.calls.proofs.Decoding.{sound, size-past, positive}
+use Rattle.decoding.specs.Decode.{Decoded, Nothing, Decodes, decode, size, called, followed, decodeFrom, decodeAll}
+use Rattle.decoding.proofs.Decoding.{sound}
+use Rattle.calls.specs.Carries.{CarriesOut}
+use Rattle.calls.proofs.Carrying.{left-lent}
+use Rattle.rehearsing.specs.Runs.{noneCounted, Runs}
 
 -- The state and the counters that a list of calls leaves.
 pub record Left : Type 0 where
@@ -36,6 +35,10 @@ unfoldable pub left : State → R.Counters → List Call → Left
 left s c [] = only s c
 left s c (k ∷ ks) = let o = rule s c k in left (o .after) (o .counters) ks
 
+left-none : (s : State) (c : R.Counters) → left s c [] ≡ only s c
+unfolding left
+left-none s c = refl
+
 -- They are those of the history.
 tell-leaves : (y : History) (ks : List Call) → left (y .now) (y .counters) ks ≡ leftBy (tell y ks)
 unfolding left tell
@@ -51,81 +54,69 @@ further : (m : ℕ) (w : List ℕ) (at : ℕ) (k : Call) (n : ℕ) → decode w 
 unfolding decodeFrom followed
 further m w at k n e = rw e
 
-module _ (h₀ : Head) (c₀ : Counters) (E₀ Q₀ Z₀ B₀ w : List ℕ) where
+-- Where something is decoded, it is a call and how many words that takes.
+some : (d : Decoded) → 0 < size d → d ≡ Decodes (called d) (size d)
+some Nothing l = absurd (omega arith)
+some (Decodes k n) l = refl
+
+module _ (h₀ : Head) (E₀ Q₀ Z₀ B₀ w : List ℕ) where
   abbrev ahead : ℕ → ℕ → List Call
   ahead calls at = decodeFrom (length w - calls) w at
 
-  pub record Running (calls at : ℕ) (h : Head) (c : Counters) (E Q Z B : List ℕ) : Type 0 where
+  pub record Running (calls at count : ℕ) (h : Head) (c : Counters) (E Q Z B : List ℕ) : Type 0 where
     pub each-some : calls ≤ at
     pub inside : at ≤ length w
+    pub sized : count ≡ size (decode w at)
     pub lent : Lent h E Q Z B
-    pub same : left (view h₀ E₀ Q₀ Z₀ B₀) (countersOf c₀) (decodeAll w) ≡ left (view h E Q Z B) (countersOf c) (ahead calls at)
+    pub same : left (view h₀ E₀ Q₀ Z₀ B₀) (countersOf noneCounted) (decodeAll w) ≡ left (view h E Q Z B) (countersOf c) (ahead calls at)
     pub counted : length (decodeAll w) ≡ calls + length (ahead calls at)
 
-  pub running-start : Lent h₀ E₀ Q₀ Z₀ B₀ → Running 0 0 h₀ c₀ E₀ Q₀ Z₀ B₀
+  pub running-start : (c : Counters) → c ≡ noneCounted → (count : ℕ) → count ≡ size (decode w 0) → Lent h₀ E₀ Q₀ Z₀ B₀ → Running 0 0 count h₀ c E₀ Q₀ Z₀ B₀
   unfolding decodeAll
-  running-start l = let e : length w - 0 ≡ length w = omega arith in record {
+  running-start c n count z l = let e : length w - 0 ≡ length w = omega arith in record {
     each-some = omega arith;
     inside = omega arith;
+    sized = z;
     lent = l;
-    same = rw e;
+    same = rw (e, n);
     counted = rw e (omega arith);
   }
 
-  module _ (calls at : ℕ) (h : Head) (c : Counters) (E Q Z B : List ℕ) (i : Running calls at h c E Q Z B) where
-    nothing-left : decode w at ≡ Nothing → ahead calls at ≡ []
-    nothing-left d = ended (length w - calls) w at d
+  module _ (calls at count : ℕ) (h : Head) (c : Counters) (E Q Z B : List ℕ) (i : Running calls at count h c E Q Z B) where
+    pub running-end : count ≤ 0 → Runs h₀ E₀ Q₀ Z₀ B₀ w (record { head = h; counters = c; calls = calls }) E Q Z B
+    running-end z = record {
+      state = λ y n m. ap (λ (x : Left). x .state) (leaves y n m);
+      counters = λ y n m. ap (λ (x : Left). x .counters) (leaves y n m);
+      calls = let l : length (ahead calls at) ≡ 0 = ap length nothing-left in omega (arith, i .counted);
+      lent = i .lent;
+    }
+      where
+        nothing-left : ahead calls at ≡ []
+        nothing-left = ended (length w - calls) w at (sound w at .none (omega (arith, i .sized)))
 
-    leaves : decode w at ≡ Nothing → (y : History) → y .now ≡ view h₀ E₀ Q₀ Z₀ B₀ → y .counters ≡ countersOf c₀ → leftBy (tell y (decodeAll w)) ≡ only (view h E Q Z B) (countersOf c)
-    unfolding left
-    leaves d y n m = sym (tell-leaves y (decodeAll w)) ∙ (λ j. left (n j) (m j) (decodeAll w)) ∙ i .same ∙ ap (left (view h E Q Z B) (countersOf c)) (nothing-left d)
+        leaves : (y : History) → y .now ≡ view h₀ E₀ Q₀ Z₀ B₀ → y .counters ≡ countersOf noneCounted → leftBy (tell y (decodeAll w)) ≡ only (view h E Q Z B) (countersOf c)
+        leaves y n m = sym (tell-leaves y (decodeAll w)) ∙ (λ j. left (n j) (m j) (decodeAll w)) ∙ i .same ∙ ap (left (view h E Q Z B) (countersOf c)) nothing-left ∙ left-none (view h E Q Z B) (countersOf c)
 
-    done : decode w at ≡ Nothing → Runs h₀ c₀ E₀ Q₀ Z₀ B₀ w (record { head = h; counters = c; calls = calls }) E Q Z B
-    done d =
-        let a = nothing-left d in
-        record {
-          state = λ y n m. ap (λ (x : Left). x .state) (leaves d y n m);
-          counters = λ y n m. ap (λ (x : Left). x .counters) (leaves d y n m);
-          calls = let l : length (ahead calls at) ≡ 0 = ap length a in omega (arith, i .counted);
-          lent = i .lent;
-        }
+    module _ (l : 0 < count) where
+      pub behind : at + count ≤ length w
+      behind = omega (arith, i .sized, sound w at .there (omega (arith, i .sized)))
 
-    pub running-end : length w ≤ at → Runs h₀ c₀ E₀ Q₀ Z₀ B₀ w (record { head = h; counters = c; calls = calls }) E Q Z B
-    running-end l = done (sound w at .none (sym (size-past w at l)))
+      decoded : decode w at ≡ Decodes (called (decode w at)) count
+      decoded = some (decode w at) (omega (arith, i .sized)) ∙ ap (Decodes (called (decode w at))) (sym (i .sized))
 
-    module _ (r : Carried) (E′ Q′ Z′ B′ : List ℕ) (g : Carries h c E Q Z B w at r E′ Q′ Z′ B′) where
-      pub running-stop : r .decoded ≡ false → Runs h₀ c₀ E₀ Q₀ Z₀ B₀ w (record { head = h; counters = c; calls = calls }) E′ Q′ Z′ B′
-      running-stop f = by-decoded (decode w at) refl
-        where
-          by-decoded : (d : Decoded) → decode w at ≡ d → Runs h₀ c₀ E₀ Q₀ Z₀ B₀ w (record { head = h; counters = c; calls = calls }) E′ Q′ Z′ B′
-          by-decoded Nothing e = let s = g .nothing e .2 in rw (s .same-edges, s .same-pending, s .same-horizons, s .same-batch) (done e)
-          by-decoded (Decodes k n) e = not-both (g .call k n e .0) f
+      next : ahead calls at ≡ called (decode w at) ∷ ahead (calls + 1) (at + count)
+      next =
+          let s : length w - calls ≡ suc (length w - (calls + 1)) = omega (arith, behind, i .each-some) in
+          ap (λ m. decodeFrom m w at) s ∙ further (length w - (calls + 1)) w at (called (decode w at)) count decoded
 
-      running-on : at < length w → (k : Call) (n : ℕ) → decode w at ≡ Decodes k n → Running (calls + 1) (at + n) (r .after .head) (r .after .counters) E′ Q′ Z′ B′
+      pub running-more : (r : After) (E′ Q′ Z′ B′ : List ℕ) → length E′ ≡ length E → length Q′ ≡ length Q → length Z′ ≡ length Z → length B′ ≡ length B → CarriesOut (called (decode w at)) h c E Q Z B r E′ Q′ Z′ B′
+          → (count′ : ℕ) → count′ ≡ size (decode w (at + count)) → Running (calls + 1) (at + count) count′ (r .head) (r .counters) E′ Q′ Z′ B′
       unfolding left
-      running-on l k n e =
-          let s : length w - calls ≡ suc (length w - (calls + 1)) = omega (arith, i .each-some) in
-          let a : ahead calls at ≡ k ∷ ahead (calls + 1) (at + n) = ap (λ m. decodeFrom m w at) s ∙ further (length w - (calls + 1)) w at k n e in
-          let z : size (decode w at) ≡ n = ap size e in
-          let p : 0 < n = positive w at k n e in
-          record {
-            each-some = omega (arith, i .each-some);
-            inside = omega (arith, sound w at .there (omega arith));
-            lent = g .lent;
-            same = i .same ∙ ap (left (view h E Q Z B) (countersOf c)) a ∙ ap (λ (o : Out). left (o .after) (o .counters) (ahead (calls + 1) (at + n))) (sym (g .call k n e .2 .gives));
-            counted = let x : length (ahead calls at) ≡ suc (length (ahead (calls + 1) (at + n))) = ap length a in omega (arith, i .counted);
-          }
-
-      pub running-more : at < length w → r .decoded ≡ true → Running (calls + 1) (r .next) (r .after .head) (r .after .counters) E′ Q′ Z′ B′
-      running-more l f = by-decoded (decode w at) refl
-        where
-          by-decoded : (d : Decoded) → decode w at ≡ d → Running (calls + 1) (r .next) (r .after .head) (r .after .counters) E′ Q′ Z′ B′
-          by-decoded Nothing e = not-both f (g .nothing e .0)
-          by-decoded (Decodes k n) e = rw (g .call k n e .1) (running-on l k n e)
-
-      pub running-less : at < length w → r .decoded ≡ true → length w - r .next < length w - at
-      running-less l f = by-decoded (decode w at) refl
-        where
-          by-decoded : (d : Decoded) → decode w at ≡ d → length w - r .next < length w - at
-          by-decoded Nothing e = not-both f (g .nothing e .0)
-          by-decoded (Decodes k n) e = omega (arith, positive w at k n e, g .call k n e .1)
+      running-more r E′ Q′ Z′ B′ e q z b g count′ y = record {
+        each-some = omega (arith, i .each-some);
+        inside = behind;
+        sized = y;
+        lent = left-lent (called (decode w at)) h c E Q Z B r E′ Q′ Z′ B′ (i .lent) e q z b g;
+        same = i .same ∙ ap (left (view h E Q Z B) (countersOf c)) next ∙ ap (λ (o : Out). left (o .after) (o .counters) (ahead (calls + 1) (at + count))) (sym (g .gives));
+        counted = let x : length (ahead calls at) ≡ suc (length (ahead (calls + 1) (at + count))) = ap length next in omega (arith, i .counted);
+      }

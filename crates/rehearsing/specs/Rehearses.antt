@@ -12,13 +12,13 @@ use Rattle.rules.specs.Foreign.{foreign}
 use Rattle.rules.specs.History.{History, fresh, tell}
 use Rattle.rules.specs.Demand.{Demanded}
 use Rattle.wiring.specs.Wired.{Writable}
-use Rattle.state.specs.declared.Counters.{Counters}
 use Rattle.state.specs.View.{viewOf, countersOf}
 use Rattle.building.specs.declared.BuildAnswer.{BuildAnswer}
 use Rattle.building.specs.Answered.{answerOf}
 use Rattle.building.specs.LaidOut.{nothing}
-use Rattle.calls.specs.Decode.{decodeAll}
+use Rattle.decoding.specs.Decode.{decodeAll}
 use Rattle.rehearsing.specs.declared.Rehearsed.{Rehearsed}
+use Rattle.rehearsing.specs.Runs.{noneCounted}
 
 -- What an accepted build is known to be. The ids play no part in what it makes.
 pub record Startable (n L : ℕ) (sources counts destinations : List ℕ) : Type 0 where
@@ -38,9 +38,6 @@ pub record Leaves (a : Setup) (w : List ℕ) (r : Rehearsed) : Type 0 where
 pub record RehearsesBuilt (n L : ℕ) (sources counts destinations w : List ℕ) (r : Rehearsed) : Type 0 where
   pub answered : answerOf (r .answer) ≡ Accepted
   pub leaves : (ids : List ℕ) → Leaves (setup n L ids sources counts destinations) w r
-
-abbrev pub noneCounted : Counters
-noneCounted = record { handled = 0; emitted = 0; remote = 0; rounds = 0; nulls = 0; workers = 0 }
 
 -- What a refused build leaves: nothing made, and nothing counted or carried out.
 abbrev pub turnedAway : BuildAnswer → Rehearsed

@@ -5,10 +5,11 @@ use state::Counters;
 use state::Head;
 use state::Runtime;
 use types::SimDuration;
+ghost use mathlib.Core.Path.{_≡_};
 ghost use Rattle.types.specs.Value.{span};
 ghost use Rattle.rules.specs.Build.{setup};
 ghost use Rattle.state.specs.Lent.{Lent};
-ghost use Rattle.rehearsing.specs.Runs.{Runs};
+ghost use Rattle.rehearsing.specs.Runs.{noneCounted, Runs};
 ghost use Rattle.rehearsing.specs.Rehearses.{Startable, RehearsesBuilt, Rehearses};
 
 // What carrying out all calls of the words leaves, and how many there were.
@@ -26,10 +27,23 @@ pub struct Rehearsed {
     pub calls: usize,
 }
 
-// Carries out all calls of the words. What cannot be decoded ends them.
-pub fn run(
-    head: Head,
-    counters: Counters,
+// Nothing is counted yet.
+fn none_counted() -> Counters
+    ensures { λ r. ⌜ r ≡ noneCounted ⌝ }
+{
+    Counters {
+        handled: 0,
+        emitted: 0,
+        remote: 0,
+        rounds: 0,
+        nulls: 0,
+        workers: 0,
+    }
+}
+
+// Carries out all calls of the words. What cannot be decoded, or the end, ends them.
+fn run(
+    mut head: Head,
     edges: &mut [u64],
     pending: &mut [u64],
     horizons: &mut [u64],
@@ -37,30 +51,23 @@ pub fn run(
     words: &[u64],
 ) -> Ran
     requires { ⌜ Lent head (now edges) (now pending) (now horizons) (now batch) ⌝ }
-    ensures { λ r. ⌜ Runs head counters (now (edges .entry)) (now (pending .entry)) (now (horizons .entry)) (now (batch .entry)) (now (words .entry)) r (now (edges .exit)) (now (pending .exit)) (now (horizons .exit)) (now (batch .exit)) ⌝ }
+    ensures { λ r. ⌜ Runs head (now (edges .entry)) (now (pending .entry)) (now (horizons .entry)) (now (batch .entry)) (now (words .entry)) r (now (edges .exit)) (now (pending .exit)) (now (horizons .exit)) (now (batch .exit)) ⌝ }
 {
-    let mut h = head;
-    let mut c = counters;
+    let mut counters = none_counted();
     let mut at: usize = 0;
     let mut calls: usize = 0;
-    while at < words.len() {
-        let carried = calls::carry(h, c, edges, pending, horizons, batch, words, at);
-        if !carried.decoded {
-            return Ran {
-                head: h,
-                counters: c,
-                calls: calls,
-            };
-        }
-        let after = carried.after;
-        h = after.head;
-        c = after.counters;
-        at = carried.next;
+    let mut count = decoding::size(words, 0);
+    while 0 < count {
+        let after = calls::carry_out(head, counters, edges, pending, horizons, batch, words, at);
+        head = after.head;
+        counters = after.counters;
+        at += count;
         calls += 1;
+        count = decoding::size(words, at);
     }
     Ran {
-        head: h,
-        counters: c,
+        head: head,
+        counters: counters,
         calls: calls,
     }
 }
@@ -82,17 +89,8 @@ fn rehearse_built<'a>(
     let mut horizons = [0u64; 128];
     let mut batch = [0u64; 512];
     let head = building::lay_out(n, lookahead, sources, counts, destinations, &mut edges);
-    let counters = Counters {
-        handled: 0,
-        emitted: 0,
-        remote: 0,
-        rounds: 0,
-        nulls: 0,
-        workers: 0,
-    };
     let ran = run(
         head,
-        counters,
         &mut edges,
         &mut pending,
         &mut horizons,
@@ -140,14 +138,7 @@ pub fn rehearse<'a>(
             batch: [0; 512],
             head: building::no_head(),
         },
-        counters: Counters {
-            handled: 0,
-            emitted: 0,
-            remote: 0,
-            rounds: 0,
-            nulls: 0,
-            workers: 0,
-        },
+        counters: none_counted(),
         calls: 0,
     }
 }

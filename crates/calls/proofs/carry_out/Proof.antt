@@ -1,6 +1,6 @@
 use borrow.Author.Needs.{needs}
-use Rattle.calls.proofs.Decoding.{inside, stands-0, stands-1, stands-2, stands-3}
-use Rattle.calls.proofs.Carrying.{edges-there, queueable, told, step-carried}
+use Rattle.decoding.proofs.Decoding.{inside}
+use Rattle.calls.proofs.Carrying.{for-set-up, step-carried, back-there, back-carried}
 use Rattle.calls.proofs.carry_out.Statement.{statement}
 use Rattle.calls.proofs.carry_out.Tie as tie
 
@@ -10,11 +10,8 @@ mul-tag c = search (inside, needs)
 shared-slice-read-tag : tie.Need-shared-slice-read-tag
 shared-slice-read-tag c = search (inside, needs)
 
-carry-initial-requires : tie.Need-carry-initial-requires
-carry-initial-requires c κs =
-    let taken = c .before .before in
-    let start = taken .before .before .before .before .before .before .before in
-    (edges-there (start .args .head) _ _ _ _ (start .pre .0), queueable (start .args .head) _ _ _ _ (start .pre .0), stands-0 _ _ (start .pre .1) (taken .if1 .taken) .there)
+carry-set-up-requires : tie.Need-carry-set-up-requires
+carry-set-up-requires c κs = search (for-set-up, needs)
 
 same-length : tie.Need-same-length
 same-length c = search needs
@@ -25,20 +22,8 @@ same-length-2 c = search needs
 returns : tie.Need-returns
 returns c =
     let call = c .before .before in
-    let taken = call .before .before .before in
-    let start = taken .before .before .before .before .before .before .before in
-    told _ _ _ _ (start .args .head) (start .args .counters) _ _ _ _ _ _ _ _ _ (stands-0 _ _ (start .pre .1) (taken .if1 .taken)) (call .carry-initial .ensures _ _ (start .pre .0))
-
-carry-begin-requires : tie.Need-carry-begin-requires
-carry-begin-requires c κs =
-    let start = c .before .before .before .before .before .before .before .before in
-    stands-1 _ _ (start .pre .1) (c .if2 .taken) .there
-
-returns-2 : tie.Need-returns-2
-returns-2 c =
-    let taken = c .before in
-    let start = taken .before .before .before .before .before .before .before .before in
-    told _ _ _ _ (start .args .head) (start .args .counters) _ _ _ _ _ _ _ _ _ (stands-1 _ _ (start .pre .1) (taken .if2 .taken)) (c .carry-begin .ensures _ _ _ _ (start .pre .0))
+    let start = call .before .before .before .before .before .before .before .before .before .before in
+    call .carry-set-up .ensures _ _ (start .pre .0)
 
 step-requires : tie.Need-step-requires
 step-requires c κs = search needs
@@ -55,20 +40,30 @@ same-length-5 c = search needs
 same-length-6 : tie.Need-same-length-6
 same-length-6 c = search needs
 
-returns-3 : tie.Need-returns-3
-returns-3 c =
-    let call = c .before .before .before .before .before .before .before .before in
-    let taken = call .before .before .before .before .before in
-    let start = taken .before .before .before .before .before .before .before .before .before in
-    told _ _ _ _ (start .args .head) (start .args .counters) _ _ _ _ _ _ _ _ _ (stands-2 _ _ (start .pre .1) (taken .if3 .taken)) (step-carried _ _ _ _ _ _ _ _ _ _ _ (call .step .ensures))
+returns-2 : tie.Need-returns-2
+returns-2 c = search (step-carried, needs)
 
-carry-back-requires : tie.Need-carry-back-requires
-carry-back-requires c κs =
-    let third = c .before .before .before .before in
-    let second = third .before in
-    let first = second .before in
-    let start = first .before .before .before .before .before .before .before in
-    (start .pre .0, stands-3 _ _ (start .pre .1) (first .if1 .left) (second .if2 .left) (third .if3 .left) .there)
+add-mask : tie.Need-add-mask
+add-mask c =
+    let start = c .before .before .before .before .before .before .before .before in
+    search (back-there _ _ (start .pre .1) (c .before .if1 .left) (c .if2 .left), needs)
+
+mul-mask : tie.Need-mul-mask
+mul-mask c =
+    let start = c .before .before .before .before .before .before .before .before in
+    search (back-there _ _ (start .pre .1) (c .before .if1 .left) (c .if2 .left), needs)
+
+shared-slice-read-mask : tie.Need-shared-slice-read-mask
+shared-slice-read-mask c =
+    let other = c .before in
+    let start = other .before .before .before .before .before .before .before .before in
+    search (back-there _ _ (start .pre .1) (other .before .if1 .left) (other .if2 .left), needs)
+
+reply-in-requires : tie.Need-reply-in-requires
+reply-in-requires c κs = search (back-there, needs)
+
+hand-back-requires : tie.Need-hand-back-requires
+hand-back-requires c κs = search needs
 
 same-length-7 : tie.Need-same-length-7
 same-length-7 c = search needs
@@ -82,14 +77,13 @@ same-length-9 c = search needs
 same-length-10 : tie.Need-same-length-10
 same-length-10 c = search needs
 
-returns-4 : tie.Need-returns-4
-returns-4 c =
+returns-3 : tie.Need-returns-3
+returns-3 c =
     let call = c .before .before .before .before .before .before in
-    let third = call .before .before .before .before .before in
-    let second = third .before in
-    let first = second .before in
-    let start = first .before .before .before .before .before .before .before in
-    told _ _ _ _ (start .args .head) (start .args .counters) _ _ _ _ _ _ _ _ _ (stands-3 _ _ (start .pre .1) (first .if1 .left) (second .if2 .left) (third .if3 .left)) (call .carry-back .ensures)
+    let replied = call .before .before .before .before .before in
+    let other = replied .before .before in
+    let start = other .before .before .before .before .before .before .before .before in
+    back-carried _ _ (start .pre .1) (other .before .if1 .left) (other .if2 .left) (start .args .head) (start .args .counters) _ _ _ _ _ (call .hand-back .result) _ _ _ (replied .reply-in .ensures) (call .hand-back .ensures)
 
 pub carry-out-spec : {M : Type 1} → statement M
 carry-out-spec =
@@ -97,21 +91,23 @@ carry-out-spec =
     (tie.spec
     mul-tag
     shared-slice-read-tag
-    carry-initial-requires
+    carry-set-up-requires
     same-length
     same-length-2
     returns
-    carry-begin-requires
-    returns-2
     step-requires
     same-length-3
     same-length-4
     same-length-5
     same-length-6
-    returns-3
-    carry-back-requires
+    returns-2
+    add-mask
+    mul-mask
+    shared-slice-read-mask
+    reply-in-requires
+    hand-back-requires
     same-length-7
     same-length-8
     same-length-9
     same-length-10
-    returns-4)
+    returns-3)

@@ -18,10 +18,20 @@ returns c = search (rehearsed, needs)
 no-head-requires : tie.Need-no-head-requires
 no-head-requires c κs = search needs
 
+none-counted-requires : tie.Need-none-counted-requires
+none-counted-requires c κs = search needs
+
 returns-2 : tie.Need-returns-2
 returns-2 c = search (turned-away, needs)
 
 pub rehearse-spec : {M : Type 1} → statement M
 rehearse-spec =
     tie.close
-    (tie.spec judge-requires enum-told rehearse-built-requires returns no-head-requires returns-2)
+    (tie.spec
+    judge-requires
+    enum-told
+    rehearse-built-requires
+    returns
+    no-head-requires
+    none-counted-requires
+    returns-2)

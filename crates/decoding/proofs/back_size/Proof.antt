@@ -1,8 +1,8 @@
 use borrow.Author.Needs.{needs}
 use native.Mathlib.Omega.{arith}
-use Rattle.calls.proofs.Decoding.{size-broken, size-fits}
-use Rattle.calls.proofs.back_size.Statement.{statement}
-use Rattle.calls.proofs.back_size.Tie as tie
+use Rattle.decoding.proofs.Decoding.{size-broken, size-fits}
+use Rattle.decoding.proofs.back_size.Statement.{statement}
+use Rattle.decoding.proofs.back_size.Tie as tie
 
 sub-left : tie.Need-sub-left
 sub-left c = search needs

@@ -1,7 +1,7 @@
 use borrow.Author.Needs.{needs}
-use Rattle.calls.proofs.Carrying.{message-is}
-use Rattle.calls.proofs.message_in.Statement.{statement}
-use Rattle.calls.proofs.message_in.Tie as tie
+use Rattle.decoding.proofs.Decoding.{message-is}
+use Rattle.decoding.proofs.message_in.Statement.{statement}
+use Rattle.decoding.proofs.message_in.Tie as tie
 
 mul-id-of : tie.Need-mul-id-of
 mul-id-of c = search needs

@@ -1,19 +1,23 @@
 -- Calls by their tags, and how many words they take.
 use mathlib.Core.Path.{_≡_, refl, sym, ap, _∙_}
-use mathlib.Core.Bool.{Bool, true, false}
 use mathlib.Core.Logic.{⊎-elim}
 use mathlib.Core.List.{List}
-use Prim.Native.Nat.{ℕ, zero, suc, _+_, _*_, _≤_, _<_}
+use Prim.Native.Nat.{ℕ, _+_, _*_, _^_, _%_, _≤_, _<_}
 use native.Mathlib.Omega.{arith}
 use lib.Dec.{eqb}
 use lib.ListN.{length, getD, List·getD-eq-default}
 use borrow.Author.Tests.{lt-ltb, le-ltb, ltb-false, ne-eqb, eqb-true, eqb-false}
 use Rattle.rules.specs.Base.{if_then_else_}
 use Rattle.rules.specs.Calls.{Call, AddInitial, Begin, Step}
-use Rattle.rules.proofs.Tests.{by-test, by-bool, not-both}
+use Rattle.rules.proofs.Tests.{by-test, by-bool}
+use Rattle.types.specs.declared.LpId.{LpId}
+use Rattle.types.specs.declared.SimTime.{SimTime}
+use Rattle.types.specs.Value.{value, id}
 use Rattle.types.proofs.Halves.{lt-or-ge}
 use Rattle.words.specs.Words.{tickAt}
-use Rattle.calls.specs.Decode.{Decoded, Nothing, Decodes, messageAt, whole, handBackAt, decode, size, Sizes, called}
+use Rattle.records.specs.Records.{payloadOf}
+use Rattle.state.specs.View.{messageOf}
+use Rattle.decoding.specs.Decode.{Decoded, Nothing, Decodes, messageAt, whole, handBackAt, decode, size, Sizes, called}
 
 module _ (w : List ℕ) (at : ℕ) where
   broken : (k : Call) (n : ℕ) → length w < at + n → whole w at k n ≡ Nothing
@@ -123,15 +127,8 @@ module _ (w : List ℕ) (at : ℕ) where
     pub stands-3 : (getD w at 0 ≡ 0 → ⊥) → (getD w at 0 ≡ 1 → ⊥) → (getD w at 0 ≡ 2 → ⊥) → Stands (handBackAt w at (getD w (at + 2) 0)) (3 + 8 * getD w (at + 2) 0)
     stands-3 n0 n1 n2 = by-bool (eqb (getD w at 0) 3) (λ t. stands _ _ (omega arith) (tag-3 (eqb-true (getD w at 0) 3 t)) l) (λ t. let z = size-other n0 n1 n2 (eqb-false (getD w at 0) 3 t) in absurd (omega arith))
 
--- Nothing is no call.
-abbrev isCall : Decoded → Bool
-isCall Nothing = false
-isCall (Decodes k n) = true
-
-pub not-nothing {κ} : {C : Type κ} (k : Call) (n : ℕ) → Nothing ≡ Decodes k n → C
-not-nothing k n e = not-both refl (sym (ap isCall e))
-
--- A call takes some words.
-pub positive : (w : List ℕ) (at : ℕ) (k : Call) (n : ℕ) → decode w at ≡ Decodes k n → 0 < n
-positive w at k zero e = not-nothing k zero (sym (sound w at .none (ap size e)) ∙ e)
-positive w at k (suc n) e = omega arith
+-- A message by its parts.
+pub message-is : (w : List ℕ) (at : ℕ) (s d : LpId) (t : SimTime) → id s ≡ getD w at 0 % 2 ^ 32 → id d ≡ getD w (at + 1) 0 % 2 ^ 32 → value t ≡ tickAt w (at + 2)
+    → messageOf (record { source = s; destination = d; time = t; len = getD w (at + 4) 0; p0 = getD w (at + 5) 0; p1 = getD w (at + 6) 0 }) ≡ messageAt w at
+unfolding messageAt
+message-is w at s d t a b e = λ i. record { source = a i; destination = b i; tick = e i; payload = payloadOf (getD w (at + 4) 0) (getD w (at + 5) 0) (getD w (at + 6) 0) }

@@ -1,7 +1,7 @@
 use borrow.Author.Needs.{needs}
-use Rattle.calls.proofs.Decoding.{size-past, size-0, size-1, size-2, size-3, size-other}
-use Rattle.calls.proofs.size.Statement.{statement}
-use Rattle.calls.proofs.size.Tie as tie
+use Rattle.decoding.proofs.Decoding.{size-past, size-0, size-1, size-2, size-3, size-other}
+use Rattle.decoding.proofs.size.Statement.{statement}
+use Rattle.decoding.proofs.size.Tie as tie
 
 returns : tie.Need-returns
 returns c = search (size-past, needs)

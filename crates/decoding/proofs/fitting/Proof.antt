@@ -1,8 +1,8 @@
 use borrow.Author.Needs.{needs}
 use native.Mathlib.Omega.{arith}
-use Rattle.calls.proofs.Decoding.{size-broken, size-fits}
-use Rattle.calls.proofs.fitting.Statement.{statement}
-use Rattle.calls.proofs.fitting.Tie as tie
+use Rattle.decoding.proofs.Decoding.{size-broken, size-fits}
+use Rattle.decoding.proofs.fitting.Statement.{statement}
+use Rattle.decoding.proofs.fitting.Tie as tie
 
 sub-if1 : tie.Need-sub-if1
 sub-if1 c = search needs

@@ -1,0 +1,16 @@
+use borrow.Author.Needs.{needs}
+use Rattle.finishing.proofs.Finishing.{accepts, accepts-not}
+use Rattle.finishing.proofs.is_accepted.Statement.{statement}
+use Rattle.finishing.proofs.is_accepted.Tie as tie
+
+enum-told : tie.Need-enum-told
+enum-told c = search needs
+
+returns : tie.Need-returns
+returns c = search (accepts, needs)
+
+returns-2 : tie.Need-returns-2
+returns-2 c = search (accepts-not, needs)
+
+pub is-accepted-spec : {M : Type 1} → statement M
+is-accepted-spec = tie.close (tie.spec enum-told returns returns-2)
