@@ -1,16 +1,18 @@
 -- What each return of add initial gives.
-use mathlib.Core.Path.{_≡_, refl, sym, ap, _∙_}
+use mathlib.Core.Path.{_≡_, refl, sym, ap, subst, _∙_}
 use mathlib.Core.Bool.{Bool, true, false}
 use mathlib.Core.List.{List}
 use Prim.Native.Nat.{ℕ, suc, _+_, _≤_, _<_}
 use native.Mathlib.Omega.{arith}
 use lib.Dec.{leb, ltb}
 use lib.ListN.{length}
-use borrow.Author.Tests.{lt-ltb, le-ltb, le-leb, lt-leb}
+use types.Run.{OneOf}
+use denote.Enum.Declared.{tagOf}
+use borrow.Author.Tests.{ltb-false, leb-true, leb-false, lt-ltb, le-ltb, le-leb, lt-leb}
 use Rattle.types.specs.Value.{id}
 use Rattle.words.proofs.Tab.{length-tab}
 use Rattle.records.specs.declared.Record.{Record}
-use Rattle.records.specs.Records.{eventAt, eventOf, edgesOf, eventsOf}
+use Rattle.records.specs.Records.{eventAt, edgesOf, eventsOf}
 use Rattle.records.specs.Queue.{Ready, Inserted}
 use Rattle.records.proofs.Stored.{length-payload}
 use Rattle.rules.specs.Base.{if_then_else_}
@@ -21,14 +23,18 @@ use Rattle.rules.specs.Rows.{unless, out, refuse}
 use Rattle.rules.specs.Pending.{insert, route}
 use Rattle.rules.specs.Foreign.{foreign}
 use Rattle.rules.specs.Initial.{addInitial}
+use Rattle.rules.specs.History as H
+use Rattle.rules.proofs.Tests.{by-bool}
 use Rattle.state.specs.declared.Head.{Head}
 use Rattle.state.specs.declared.Message.{Message}
+use Rattle.state.specs.declared.Answer.{Answer}
 use Rattle.state.specs.declared.Answer.the-variants as P
 use Rattle.state.specs.View.{view, messageOf}
 use Rattle.state.specs.Heads.{grownHead}
+use Rattle.state.proofs.Answer.{the-type}
+use Rattle.state.proofs.Deciding.{others, passes, refuses, decided}
 use Rattle.starting.proofs.Beginning.{accepted-moves}
-use Rattle.starting.specs.declared.Headed.{Headed}
-use Rattle.adding.specs.Adds.{recordOf, Queueable, Let, Enqueues, AddsInitial}
+use Rattle.adding.specs.Adds.{recordOf, Queueable, Let, Passes, TriesQueue, Tries, Enqueues, AddsInitial}
 
 -- The rows, each with those before it passed.
 module _ (s : State) (c : Counters) (m : R.Message) where
@@ -83,78 +89,98 @@ pub record-is : (m : Message) (k a b : ℕ) → a ≡ id (m .destination) → b 
 unfolding recordOf
 record-is m k a b e f = λ i. record { dst = e i; hi = m .time .hi; lo = m .time .lo; src = f i; seq = k; len = m .len; p0 = m .p0; p1 = m .p1 }
 
+pub enqueued : (h : Head) (Q : List ℕ) (m : Message) (r : Record) (Q′ : List ℕ) → r ≡ recordOf m (h .next) → Inserted (h .pending) r Q Q′ → Enqueues h Q m (grownHead h) Q′
+enqueued h Q m r Q′ e i = record { head = refl; inserted = subst (λ (y : Record). Inserted (h .pending) y Q Q′) e i }
+
+pub led : (es : List R.Edge) (x y a b : ℕ) (t : Bool) → a ≡ x → b ≡ y → t ≡ route es a b → t ≡ route es x y
+led es x y a b t ea eb e = e ∙ (λ j. route es (ea j) (eb j))
+
+-- Row 19 as the program tests it.
+pub last : (k : ℕ) → leb most k ≡ ltb most (k + 1)
+last k = by-bool (leb most k) (λ y. y ∙ sym (lt-ltb most (k + 1) (omega (arith, leb-true most k y)))) (λ y. y ∙ sym (le-ltb most (k + 1) (omega (arith, leb-false most k y))))
+
 -- Rows 17 to 19 of the head, from the program's tests.
-module _ (h : Head) (Q : List ℕ) (m : Message) where
-  long : 16 < m .len → ltb most-payload (length (messageOf m .payload)) ≡ true
-  long l = lt-ltb 16 (length (messageOf m .payload)) (omega (arith, length-payload (m .len) (m .p0) (m .p1)))
+module _ (h : Head) (m : Message) where
+  payload : length (messageOf m .payload) ≡ m .len
+  payload = length-payload (m .len) (m .p0) (m .p1)
 
   short : m .len ≤ 16 → ltb most-payload (length (messageOf m .payload)) ≡ false
-  short l = le-ltb 16 (length (messageOf m .payload)) (omega (arith, length-payload (m .len) (m .p0) (m .p1)))
+  short l = le-ltb 16 (length (messageOf m .payload)) (omega (arith, payload))
 
-  pub enqueue-long : 16 < m .len → Enqueues h Q m (record { answer = P.PayloadTooLong (m .len); head = h }) Q
-  enqueue-long l = record {
-    gives = λ E Z B c i.
-        ap (λ (k : ℕ). refuse (view h E Q Z B) c (A.PayloadTooLong k)) (sym (length-payload (m .len) (m .p0) (m .p1)))
-        ∙ sym (row-17 (view h E Q Z B) c (messageOf m) i (long l));
-    kept = λ es y. (refl, refl);
-  }
+  pub queue-long : 16 < m .len → TriesQueue h m (P.PayloadTooLong (m .len))
+  unfolding H.refused
+  queue-long l = refuses _ refl (λ E Q Z B c i.
+      ap (λ (k : ℕ). refuse (view h E Q Z B) c (A.PayloadTooLong k)) (sym payload)
+      ∙ sym (row-17 (view h E Q Z B) c (messageOf m) i (lt-ltb 16 (length (messageOf m .payload)) (omega (arith, payload)))))
 
-  module _ (l : m .len ≤ 16) where
-    pub enqueue-full : 512 ≤ h .pending → Enqueues h Q m (record { answer = P.QueueFull; head = h }) Q
-    enqueue-full k = record { gives = λ E Z B c i. sym (row-18 (view h E Q Z B) c (messageOf m) i (short l) (le-leb 512 (length (eventsOf (h .pending) Q)) (omega (arith, length-tab (eventAt Q) 0 (h .pending))))); kept = λ es y. (refl, refl) }
+  module _ (l : m .len ≤ 16) (t : Bool) (et : t ≡ leb most-pending (h .pending)) where
+    room : (u : Bool) → t ≡ u → (Q : List ℕ) → leb most-pending (length (eventsOf (h .pending) Q)) ≡ u
+    room u e Q = ap (leb most-pending) (length-tab (eventAt Q) 0 (h .pending)) ∙ sym et ∙ e
 
-    module _ (k : h .pending < 512) where
-      room : leb most-pending (length (eventsOf (h .pending) Q)) ≡ false
-      room = lt-leb 512 (length (eventsOf (h .pending) Q)) (omega (arith, length-tab (eventAt Q) 0 (h .pending)))
+    pub queue-full : t ≡ true → TriesQueue h m P.QueueFull
+    unfolding H.refused
+    queue-full k = refuses _ refl (λ E Q Z B c i. sym (row-18 (view h E Q Z B) c (messageOf m) i (short l) (room true k Q)))
 
-      pub enqueue-late : 18446744073709551615 ≤ h .next → Enqueues h Q m (record { answer = P.EventSequenceOverflow; head = h }) Q
-      enqueue-late x = record { gives = λ E Z B c i. sym (row-19 (view h E Q Z B) c (messageOf m) i (short l) room (lt-ltb most (h .next + 1) (omega arith))); kept = λ es y. (refl, refl) }
+    module _ (k : t ≡ false) (u : Bool) (eu : u ≡ ltb most (h .next + 1)) where
+      pub queue-late : u ≡ true → TriesQueue h m P.EventSequenceOverflow
+      unfolding H.refused
+      queue-late x = refuses _ refl (λ E Q Z B c i. sym (row-19 (view h E Q Z B) c (messageOf m) i (short l) (room false k Q) (sym eu ∙ x)))
 
-      pub enqueued : h .next < 18446744073709551615 → (r : Record) (Q′ : List ℕ) → r ≡ recordOf m (h .next) → Inserted (h .pending) r Q Q′ → Enqueues h Q m (record { answer = P.Accepted; head = grownHead h }) Q′
-      unfolding recordOf
-      enqueued x r Q′ e j = record {
-        gives = λ E Z B c i.
-            let q : eventsOf (h .pending + 1) Q′ ≡ insert (numbered (messageOf m) (h .next)) (eventsOf (h .pending) Q) = j .events ∙ ap (λ (y : Record). insert (eventOf y) (eventsOf (h .pending) Q)) e in
-            let n : h .next + 1 ≡ suc (h .next) = omega arith in
-            (λ k. out A.Accepted (withPending (view h E Q Z B) (q k) (n k)) c)
-            ∙ sym (accepted (view h E Q Z B) c (messageOf m) i (short l) room (le-ltb most (h .next + 1) (omega arith)));
-        kept = λ es y. accepted-moves y;
-      }
+      pub queue-open : u ≡ false → TriesQueue h m P.Accepted
+      queue-open x = passes (record { short = l; place = leb-false 512 (h .pending) (sym et ∙ k); number = omega (arith, ltb-false most (h .next + 1) (sym eu ∙ x)) })
 
--- Rows 12 to 16, and then the queue.
-module _ (h : Head) (E Q : List ℕ) (m : Message) where
-  pub add-poisoned : h .poisoned ≡ true → AddsInitial h E Q m (record { answer = P.Poisoned; head = h }) Q
-  add-poisoned p = record { gives = λ Z B c f. sym (row-12 (view h E Q Z B) c (messageOf m) f p); kept = λ es y. (refl, refl) }
+-- Rows 12 to 16, and then those of the queue.
+module _ (h : Head) (E : List ℕ) (m : Message) where
+  pub add-poisoned : h .poisoned ≡ true → Tries h E m P.Poisoned
+  unfolding H.refused
+  add-poisoned p = refuses _ refl (λ Q Z B c f. sym (row-12 (view h E Q Z B) c (messageOf m) f p))
 
   module _ (p : h .poisoned ≡ false) where
-    pub add-closed : h .initial ≡ false → AddsInitial h E Q m (record { answer = P.InitialEventsAlreadyClosed; head = h }) Q
-    add-closed o = record { gives = λ Z B c f. sym (row-13 (view h E Q Z B) c (messageOf m) f p o); kept = λ es y. (refl, refl) }
+    pub add-closed : h .initial ≡ false → Tries h E m P.InitialEventsAlreadyClosed
+    unfolding H.refused
+    add-closed o = refuses _ refl (λ Q Z B c f. sym (row-13 (view h E Q Z B) c (messageOf m) f p o))
 
     module _ (o : h .initial ≡ true) (a : ℕ) (ea : a ≡ id (m .source)) where
-      pub add-source : h .n ≤ a → AddsInitial h E Q m (record { answer = P.UnknownInitialSource a; head = h }) Q
-      add-source l = record { gives = λ Z B c f. ap (λ (x : ℕ). refuse (view h E Q Z B) c (A.UnknownInitialSource x)) ea ∙ sym (row-14 (view h E Q Z B) c (messageOf m) f p o (le-leb (h .n) _ (omega arith))); kept = λ es y. (refl, refl) }
+      pub add-source : h .n ≤ a → Tries h E m (P.UnknownInitialSource a)
+      unfolding H.refused
+      add-source l = refuses _ refl (λ Q Z B c f. ap (λ (x : ℕ). refuse (view h E Q Z B) c (A.UnknownInitialSource x)) ea ∙ sym (row-14 (view h E Q Z B) c (messageOf m) f p o (le-leb (h .n) _ (omega arith))))
 
       module _ (l : a < h .n) (b : ℕ) (eb : b ≡ id (m .destination)) where
         known : leb (h .n) (id (m .source)) ≡ false
         known = lt-leb (h .n) _ (omega arith)
 
-        pub add-destination : h .n ≤ b → AddsInitial h E Q m (record { answer = P.UnknownInitialDestination b; head = h }) Q
-        add-destination k = record { gives = λ Z B c f. ap (λ (x : ℕ). refuse (view h E Q Z B) c (A.UnknownInitialDestination x)) eb ∙ sym (row-15 (view h E Q Z B) c (messageOf m) f p o known (le-leb (h .n) _ (omega arith))); kept = λ es y. (refl, refl) }
+        pub add-destination : h .n ≤ b → Tries h E m (P.UnknownInitialDestination b)
+        unfolding H.refused
+        add-destination k = refuses _ refl (λ Q Z B c f. ap (λ (x : ℕ). refuse (view h E Q Z B) c (A.UnknownInitialDestination x)) eb ∙ sym (row-15 (view h E Q Z B) c (messageOf m) f p o known (le-leb (h .n) _ (omega arith))))
 
-        module _ (k : b < h .n) (t : Bool) (et : t ≡ route (edgesOf (h .edges) E) a b) where
-          routed : (u : Bool) → t ≡ u → route (edgesOf (h .edges) E) (id (m .source)) (id (m .destination)) ≡ u
-          routed u e = (λ j. route (edgesOf (h .edges) E) (sym ea j) (sym eb j)) ∙ sym et ∙ e
-
+        module _ (k : b < h .n) (t : Bool) (et : t ≡ route (edgesOf (h .edges) E) (id (m .source)) (id (m .destination))) where
           reached : leb (h .n) (id (m .destination)) ≡ false
           reached = lt-leb (h .n) _ (omega arith)
 
-          pub add-unrouted : t ≡ false → AddsInitial h E Q m (record { answer = P.InitialRouteMissing a b; head = h }) Q
-          add-unrouted u = record {
-            gives = λ Z B c f.
-                (λ j. refuse (view h E Q Z B) c (A.InitialRouteMissing (ea j) (eb j)))
-                ∙ sym (row-16 (view h E Q Z B) c (messageOf m) f p o known reached (routed false u));
-            kept = λ es y. (refl, refl);
-          }
+          pub add-unrouted : t ≡ false → Tries h E m (P.InitialRouteMissing a b)
+          unfolding H.refused
+          add-unrouted u = refuses _ refl (λ Q Z B c f.
+              (λ j. refuse (view h E Q Z B) c (A.InitialRouteMissing (ea j) (eb j)))
+              ∙ sym (row-16 (view h E Q Z B) c (messageOf m) f p o known reached (sym et ∙ u)))
 
-          pub added : t ≡ true → (r : Headed) (Q′ : List ℕ) → Enqueues h Q m r Q′ → AddsInitial h E Q m r Q′
-          added u r Q′ g = record { gives = λ Z B c f. g .gives E Z B c (record { passes = f; healthy = p; opened = o; source = known; destination = reached; routed = routed true u }); kept = λ es y. g .kept es y }
+          pub add-queued : t ≡ true → (r : Answer) → TriesQueue h m r → Tries h E m r
+          add-queued u r d =
+              let lets : Passes h E m = λ Q Z B f. record { passes = f; healthy = p; opened = o; source = known; destination = reached; routed = sym et ∙ u } in
+              record { passed = λ e. (d .passed e, lets); refused = λ n Q Z B c f. d .refused n E Q Z B c (lets Q Z B f) }
+
+-- Then the queue, or nothing.
+module _ (h : Head) (E Q : List ℕ) (m : Message) (a : Answer) (d : Tries h E m a) where
+  pub added : a ≡ P.Accepted → (k : Head) (Q′ : List ℕ) → Enqueues h Q m k Q′ → AddsInitial h E Q m (record { answer = a; head = k }) Q′
+  unfolding recordOf
+  added e k Q′ g = rw (e, g .head) (record {
+    gives = λ Z B c f.
+        let p = d .passed e in
+        let t : leb most-pending (length (eventsOf (h .pending) Q)) ≡ false = lt-leb 512 (length (eventsOf (h .pending) Q)) (omega (arith, length-tab (eventAt Q) 0 (h .pending), p .0 .place)) in
+        let n : h .next + 1 ≡ suc (h .next) = omega arith in
+        (λ j. out A.Accepted (withPending (view h E Q Z B) (g .inserted .events j) (n j)) c)
+        ∙ sym (accepted (view h E Q Z B) c (messageOf m) (p .1 Q Z B f) (short h m (p .0 .short)) t (le-ltb most (h .next + 1) (omega (arith, p .0 .number))));
+    kept = λ es y. accepted-moves y;
+  })
+
+  pub as-given : OneOf others (tagOf the-type a) → AddsInitial h E Q m (record { answer = a; head = h }) Q
+  as-given w = record { gives = λ Z B c f. decided a d w Q Z B c f; kept = λ es y. (refl, refl) }

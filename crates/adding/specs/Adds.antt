@@ -2,7 +2,7 @@
 use mathlib.Core.Path.{_≡_}
 use mathlib.Core.Bool.{true, false}
 use mathlib.Core.List.{List}
-use Prim.Native.Nat.{ℕ}
+use Prim.Native.Nat.{ℕ, _≤_, _<_}
 use lib.Dec.{leb}
 use lib.ListN.{length}
 use Rattle.types.specs.Value.{id}
@@ -16,9 +16,13 @@ use Rattle.rules.specs.Initial.{addInitial}
 use Rattle.rules.specs.History.{refused}
 use Rattle.state.specs.declared.Head.{Head}
 use Rattle.state.specs.declared.Message.{Message}
+use Rattle.state.specs.declared.Answer.{Answer}
 use Rattle.state.specs.View.{view, messageOf, answerOf}
+use Rattle.state.specs.Heads.{grownHead}
+use Rattle.state.specs.Decided.{Decides}
 use Rattle.records.specs.declared.Record.{Record}
 use Rattle.records.specs.Records.{eventsOf}
+use Rattle.records.specs.Queue.{Inserted}
 use Rattle.starting.specs.declared.Headed.{Headed}
 
 -- The message as a pending record.
@@ -40,14 +44,33 @@ pub record Let (s : State) (m : R.Message) : Type 0 where
   pub destination : leb (s .n) (m .destination) ≡ false
   pub routed : route (s .edges) (m .source) (m .destination) ≡ true
 
--- Whatever the other arrays and the counters are, where 11 to 16 let the message pass.
-pub record Enqueues (h : Head) (pending : List ℕ) (m : Message) (r : Headed) (pending′ : List ℕ) : Type 0 where
-  pub gives : (E Z B : List ℕ) (c : Counters) → Let (view h E pending Z B) (messageOf m)
-      → out (answerOf (eventsOf (r .head .batch) B) (r .answer)) (view (r .head) E pending′ Z B) c ≡ addInitial (view h E pending Z B) c (messageOf m)
-  pub kept : (es : List Event) → refused (answerOf es (r .answer)) ≡ true → (r .head ≡ h) × (pending′ ≡ pending)
-
 -- Whatever the other arrays and the counters are.
 pub record AddsInitial (h : Head) (edges pending : List ℕ) (m : Message) (r : Headed) (pending′ : List ℕ) : Type 0 where
   pub gives : (Z B : List ℕ) (c : Counters) → foreign (view h edges pending Z B) ≡ false
       → out (answerOf (eventsOf (r .head .batch) B) (r .answer)) (view (r .head) edges pending′ Z B) c ≡ addInitial (view h edges pending Z B) c (messageOf m)
   pub kept : (es : List Event) → refused (answerOf es (r .answer)) ≡ true → (r .head ≡ h) × (pending′ ≡ pending)
+
+-- 17 to 19 let the message pass.
+pub record Room (h : Head) (m : Message) : Type 0 where
+  pub short : m .len ≤ 16
+  pub place : h .pending < 512
+  pub number : h .next < 18446744073709551615
+
+-- The rule refuses as a says, whatever the other arrays and the counters are.
+abbrev pub Refuses : (State → Type 0) → Head → List ℕ → Message → Answer → Type 0
+Refuses Lets h E m a = (P Z B : List ℕ) (c : Counters) → Lets (view h E P Z B) → out (answerOf (eventsOf (h .batch) B) a) (view h E P Z B) c ≡ addInitial (view h E P Z B) c (messageOf m)
+
+-- What rows 17 to 19 answer, where those before them let the message pass; and rows 12 to 19, where 11 lets the state pass.
+abbrev pub TriesQueue : Head → Message → Answer → Type 0
+TriesQueue h m a = Decides a (Room h m) ((E : List ℕ) → Refuses (λ s. Let s (messageOf m)) h E m a)
+
+abbrev pub Passes : Head → List ℕ → Message → Type 0
+Passes h E m = (P Z B : List ℕ) → foreign (view h E P Z B) ≡ false → Let (view h E P Z B) (messageOf m)
+
+abbrev pub Tries : Head → List ℕ → Message → Answer → Type 0
+Tries h E m a = Decides a (Room h m × Passes h E m) (Refuses (λ s. foreign s ≡ false) h E m a)
+
+-- The message is pending at its place.
+pub record Enqueues (h : Head) (pending : List ℕ) (m : Message) (r : Head) (pending′ : List ℕ) : Type 0 where
+  pub head : r ≡ grownHead h
+  pub inserted : Inserted (h .pending) (recordOf m (h .next)) pending pending′

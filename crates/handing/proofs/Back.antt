@@ -5,6 +5,8 @@ use mathlib.Core.List.{List, []}
 use Prim.Native.Nat.{ℕ, _*_, _/_, _≤_}
 use native.Mathlib.Omega.{arith}
 use lib.ListN.{length}
+use types.Run.{OneOf}
+use denote.Enum.Declared.{tagOf}
 use Rattle.words.specs.Words.{tab}
 use Rattle.records.specs.Records.{eventAt, edgesOf, eventsOf}
 use Rattle.rules.specs.Base.{if_then_else_, nonEmpty}
@@ -21,24 +23,28 @@ use Rattle.rules.proofs.Table.{none-decides, unless-append}
 use Rattle.rules.proofs.Shape.{shaped}
 use Rattle.rules.proofs.ShapeCalls.{Fit, fits}
 use Rattle.edges.specs.Routes.{Routes}
-use Rattle.replies.specs.Emissions.{emissionsOf}
 use Rattle.replies.specs.Replies.{Places, Malformed}
 use Rattle.judging.specs.declared.Verdict.{Verdict}
 use Rattle.judging.specs.Judges.{Judges, Judgeable}
 use Rattle.judging.proofs.InHand.{findable}
+use Rattle.judging.proofs.Wired.{routable}
 use Rattle.reviewing.specs.Turns.{Replied, JudgesReply}
 use Rattle.state.specs.declared.Head.{Head}
 use Rattle.state.specs.declared.Counters.{Counters}
 use Rattle.state.specs.declared.After.{After}
+use Rattle.state.specs.declared.Answer.{Answer}
 use Rattle.state.specs.declared.Answer.the-variants as P
 use Rattle.state.specs.View.{view, countersOf, answerOf}
 use Rattle.state.specs.Kept.{unmoved}
 use Rattle.state.specs.Lent.{Lent}
 use Rattle.state.proofs.Facts.{some-events, no-events, few-processes, batch-order}
+use Rattle.state.proofs.Answer.{the-type}
 use Rattle.state.proofs.Moves.{committed-moves, lost-moves}
+use Rattle.state.proofs.Deciding.{others, passes, refuses, decided}
 use Rattle.concluding.specs.Concludes.{Loses}
 use Rattle.settling.specs.Settles.{lastRows, settled, Settleable, Settles}
 use Rattle.handing.specs.Hands.{HandsBack}
+use Rattle.handing.specs.Tries.{repliedOf, Passed, Tries, Reviewable, Reviews}
 
 none-is : (es : List Event) → es ≡ [] → nonEmpty es ≡ false
 unfolding nonEmpty
@@ -79,14 +85,20 @@ malformed-by q mask T xs t p m = sym (m q p)
 
 -- What 27 to 33 and what follows ask of the reply's words.
 module _ (h : Head) (E Q Z B : List ℕ) (mask : ℕ) (w : List ℕ) (l : Lent h E Q Z B) where
-  pub judgeable : (R : List ℕ) → length R ≡ 64 → malformed (eventsOf (h .batch) B) mask (emissionsOf (length w / 8) w) ≡ false → Judgeable h R Z × Replied (h .batch) B mask (length w / 8) w
-  judgeable R n e = (
-    record { few = few-processes h E Q Z B (l .passes); route-words = n; horizon-words = l .horizon-words },
-    record { batch-words = findable h E Q Z B l .0; reply-words = whole w; owners = findable h E Q Z B l .1; order = batch-order h E Q Z B (l .passes); formed = e },
-  )
+  pub reviewable : Passed h B mask (repliedOf w) → Reviewable h E Z B mask w
+  reviewable p = record {
+    few = few-processes h E Q Z B (l .passes);
+    edge-words = routable h E Q Z B l .0;
+    wired = routable h E Q Z B l .1;
+    horizon-words = l .horizon-words;
+    replied = record { batch-words = findable h E Q Z B l .0; reply-words = whole w; owners = findable h E Q Z B l .1; order = batch-order h E Q Z B (l .passes); formed = p .formed };
+  }
 
   pub settleable : (h .batch ≡ 0 → ⊥) → Settleable h E Q Z B w (length w / 8)
   settleable n = record { lent = l; in-hand = omega arith; words = whole w }
+
+pub judgeable : (h : Head) (E Z B : List ℕ) (mask : ℕ) (w R : List ℕ) → length R ≡ 64 → Reviewable h E Z B mask w → Judgeable h R Z × Replied (h .batch) B mask (length w / 8) w
+judgeable h E Z B mask w R n r = (record { few = r .few; route-words = n; horizon-words = r .horizon-words }, r .replied)
 
 -- A reply of the emissions xs, in whatever form they were lent.
 module _ (h : Head) (c : Counters) (E Q Z B : List ℕ) (mask : ℕ) (xs : List Emission) (l : Lent h E Q Z B) where
@@ -146,7 +158,40 @@ module _ (h : Head) (c : Counters) (E Q Z B : List ℕ) (mask : ℕ) (xs : List 
           kept = λ es x. not-both x (d .moves es);
         }
 
+-- The rows before the verdict.
+module _ (h : Head) (B : List ℕ) (mask : ℕ) (xs : List Emission) where
+  pub tries-dead : h .poisoned ≡ true → Tries h B mask xs P.Poisoned
+  unfolding H.refused
+  tries-dead p = refuses _ refl (λ c E Q Z l. back-dead h c E Q Z B mask xs l p)
+
+  module _ (p : h .poisoned ≡ false) where
+    pub tries-empty : h .batch ≡ 0 → Tries h B mask xs P.NoBatch
+    unfolding H.refused
+    tries-empty e = refuses _ refl (λ c E Q Z l. back-empty h c E Q Z B mask xs l p e)
+
+    module _ (n : h .batch ≡ 0 → ⊥) (t : Bool) (et : malformed (eventsOf (h .batch) B) mask xs ≡ t) where
+      pub tries-malformed : t ≡ true → Tries h B mask xs P.MalformedReply
+      unfolding H.refused
+      tries-malformed e = refuses _ refl (λ c E Q Z l. back-malformed h c E Q Z B mask xs l p n (et ∙ e))
+
+      pub tries-passed : t ≡ false → Tries h B mask xs P.Accepted
+      tries-passed e = passes (record { healthy = p; in-hand = n; formed = et ∙ e })
+
 -- The verdict of a reply in words.
-pub verdict-of : (h : Head) (E Q Z B : List ℕ) (mask k : ℕ) (w R : List ℕ) → Routes (edgesOf (h .edges) E) R → (v : Verdict) → JudgesReply h R Z B mask k w v → Judges (processRows (view h E Q Z B) mask (emissionsOf k w) (eventsOf (h .batch) B)) v
-unfolding JudgesReply
-verdict-of h E Q Z B mask k w R r v j = j E Q r
+pub reviewed : (h : Head) (E Z B : List ℕ) (mask : ℕ) (w R : List ℕ) → Routes (edgesOf (h .edges) E) R → (v : Verdict) → JudgesReply h R Z B mask (length w / 8) w v → Reviews h E Z B mask (repliedOf w) v
+unfolding JudgesReply Reviews
+reviewed h E Z B mask w R r v j = λ Q. j E Q r
+
+-- What follows the rows.
+module _ (h : Head) (c : Counters) (E Q Z B : List ℕ) (mask : ℕ) (xs : List Emission) (l : Lent h E Q Z B) where
+  pub as-given : (a : Answer) → Tries h B mask xs a → OneOf others (tagOf the-type a) → HandsBack h c E Q Z B mask xs (record { answer = a; head = h; counters = c }) Q Z B
+  as-given a d w = decided a d w c E Q Z l
+
+  module _ (p : Passed h B mask xs) (v : Verdict) (j : Reviews h E Z B mask xs v) where
+    pub settled-on : v .sound ≡ true → (r : After) (Q′ Z′ B′ : List ℕ) → Settles h c E Q Z B xs r Q′ Z′ B′ → HandsBack h c E Q Z B mask xs r Q′ Z′ B′
+    unfolding Reviews
+    settled-on = back-settled h c E Q Z B mask xs l (p .healthy) (p .in-hand) (p .formed) v (j Q)
+
+    pub lost-on : v .sound ≡ false → (r : After) (B′ : List ℕ) → Loses (v .answer) h c r → HandsBack h c E Q Z B mask xs r Q Z B′
+    unfolding Reviews
+    lost-on = back-lost h c E Q Z B mask xs l (p .healthy) (p .in-hand) (p .formed) v (j Q)

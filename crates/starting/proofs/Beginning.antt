@@ -1,10 +1,13 @@
 -- What each return of begin gives.
-use mathlib.Core.Path.{_≡_, refl, sym, ap, _∙_}
-use mathlib.Core.Bool.{Bool, true, false, true≢false}
+use mathlib.Core.Path.{_≡_, refl, sym, ap, subst, _∙_}
+use mathlib.Core.Bool.{Bool, true, false, not, true≢false}
+use mathlib.Core.List.{List, []}
 use Prim.Native.Nat.{ℕ}
 use native.Mathlib.Omega.{arith}
 use lib.Dec.{leb, ltb}
 use borrow.Author.Tests.{ltb-true, ltb-false, le-leb, lt-leb}
+use types.Run.{OneOf}
+use denote.Enum.Declared.{tagOf}
 use Rattle.types.specs.declared.SimTime.{SimTime}
 use Rattle.types.specs.Value.{value}
 use Rattle.rules.specs.Base.{if_then_else_}
@@ -13,12 +16,16 @@ use Rattle.rules.specs.Answers as A
 use Rattle.rules.specs.Rows.{unless, out, refuse}
 use Rattle.rules.specs.Foreign.{foreign}
 use Rattle.rules.specs.Begin.{previous, begin}
-use Rattle.rules.specs.History.{refused}
+use Rattle.rules.specs.History as H
 use Rattle.state.specs.declared.Head.{Head}
+use Rattle.records.specs.Records.{eventsOf}
+use Rattle.state.specs.declared.Answer.{Answer}
 use Rattle.state.specs.declared.Answer.the-variants as P
-use Rattle.state.specs.View.{view, storedOf}
+use Rattle.state.specs.View.{view, storedOf, answerOf}
 use Rattle.state.specs.Heads.{runningHead}
-use Rattle.starting.specs.Starts.{Begins}
+use Rattle.state.proofs.Answer.{the-type}
+use Rattle.state.proofs.Deciding.{others, passes, refuses, decided}
+use Rattle.starting.specs.Starts.{Begins, Tries}
 
 pub last-stored : (b : _) (h k : ℕ) → b ≡ true → h ≡ previous (storedOf b h k)
 unfolding previous
@@ -53,32 +60,53 @@ module _ (s : State) (c : Counters) (h b : ℕ) (f : foreign s ≡ false) where
       accepted l t = rw (f, p, r, l, t)
 
 -- Row 22 as the program tests it.
-at-top : (m t h : ℕ) → m ≡ t → ltb h m ≡ false → leb t h ≡ true
-at-top m t h e l = le-leb t h (omega (arith, ltb-false h m l))
+pub at-top : (m t h : ℕ) (x : Bool) → m ≡ t → x ≡ ltb h m → not x ≡ leb t h
+at-top m t h true e l = sym (lt-leb t h (omega (arith, ltb-true h m (sym l))))
+at-top m t h false e l = sym (le-leb t h (omega (arith, ltb-false h m (sym l))))
 
-below-top : (m t h : ℕ) → m ≡ t → ltb h m ≡ true → leb t h ≡ false
-below-top m t h e l = lt-leb t h (omega (arith, ltb-true h m l))
-
-pub accepted-moves : {C : Type 0} → refused A.Accepted ≡ true → C
-unfolding refused
+pub accepted-moves : {C : Type 0} → H.refused A.Accepted ≡ true → C
+unfolding H.refused
 accepted-moves x = absurd (true≢false (sym x))
 
 -- The same of the head, from the program's tests.
-module _ (h : Head) (t : SimTime) (b : ℕ) where
-  pub poisoned : h .poisoned ≡ true → Begins h t b (record { answer = P.Poisoned; head = h })
-  poisoned p = record { gives = λ E Q Z B c f. sym (row-12 (view h E Q Z B) c (value t) b f p); kept = λ es x. refl }
+module _ (h : Head) (t : SimTime) where
+  left : (a : Answer) → H.refused (answerOf [] a) ≡ true → ((E Q Z B : List ℕ) (c : Counters) (b : ℕ) → foreign (view h E Q Z B) ≡ false → out (answerOf (eventsOf (h .batch) B) a) (view h E Q Z B) c ≡ begin (view h E Q Z B) c (value t) b) → Tries h t a
+  left a r g = refuses a r (λ b. record { gives = λ E Q Z B c f. g E Q Z B c b f; kept = λ es x. refl })
+
+  pub poisoned : h .poisoned ≡ true → Tries h t P.Poisoned
+  unfolding H.refused
+  poisoned p = left _ refl (λ E Q Z B c b f. sym (row-12 (view h E Q Z B) c (value t) b f p))
 
   module _ (p : h .poisoned ≡ false) where
-    pub run-open : h .running ≡ true → Begins h t b (record { answer = P.RunOpen; head = h })
-    run-open r = record { gives = λ E Q Z B c f. sym (row-20 (view h E Q Z B) c (value t) b f p r); kept = λ es x. refl }
+    pub run-open : h .running ≡ true → Tries h t P.RunOpen
+    unfolding H.refused
+    run-open r = left _ refl (λ E Q Z B c b f. sym (row-20 (view h E Q Z B) c (value t) b f p r))
 
     module _ (r : h .running ≡ false) (m : SimTime) (e : value m ≡ previous (storedOf (h .stored) (value (h .horizon)) (h .budget))) where
-      pub regression : (x : Bool) → x ≡ ltb (value t) (value m) → x ≡ true → Begins h t b (record { answer = P.HorizonRegression m t; head = h })
-      regression x y l = record { gives = λ E Q Z B c f. ap (λ (x : ℕ). refuse (view h E Q Z B) c (A.HorizonRegression x (value t))) e ∙ sym (row-21 (view h E Q Z B) c (value t) b f p r (ap (ltb (value t)) (sym e) ∙ sym y ∙ l)); kept = λ es x. refl }
+      before : (x u : Bool) → x ≡ ltb (value t) (value m) → x ≡ u → ltb (value t) (previous (storedOf (h .stored) (value (h .horizon)) (h .budget))) ≡ u
+      before x u y l = ap (ltb (value t)) (sym e) ∙ sym y ∙ l
 
-      module _ (x : Bool) (y : x ≡ ltb (value t) (value m)) (l : x ≡ false) (k : SimTime) (g : value k ≡ top) (u : Bool) (v : u ≡ ltb (value t) (value k)) where
-        pub overflow : u ≡ false → Begins h t b (record { answer = P.HorizonOverflow t; head = h })
-        overflow o = record { gives = λ E Q Z B c f. sym (row-22 (view h E Q Z B) c (value t) b f p r (ap (ltb (value t)) (sym e) ∙ sym y ∙ l) (at-top (value k) top (value t) g (sym v ∙ o))); kept = λ es x. refl }
+      pub regression : (x : Bool) → x ≡ ltb (value t) (value m) → x ≡ true → Tries h t (P.HorizonRegression m t)
+      unfolding H.refused
+      regression x y l = left _ refl (λ E Q Z B c b f.
+          ap (λ (x : ℕ). refuse (view h E Q Z B) c (A.HorizonRegression x (value t))) e
+          ∙ sym (row-21 (view h E Q Z B) c (value t) b f p r (before x true y l)))
 
-        pub begun : u ≡ true → Begins h t b (record { answer = P.Accepted; head = runningHead h t b })
-        begun o = record { gives = λ E Q Z B c f. sym (accepted (view h E Q Z B) c (value t) b f p r (ap (ltb (value t)) (sym e) ∙ sym y ∙ l) (below-top (value k) top (value t) g (sym v ∙ o))); kept = λ es x. accepted-moves x }
+      module _ (x : Bool) (y : x ≡ ltb (value t) (value m)) (l : x ≡ false) (u : Bool) (v : u ≡ leb top (value t)) where
+        pub overflow : u ≡ true → Tries h t (P.HorizonOverflow t)
+        unfolding H.refused
+        overflow o = left _ refl (λ E Q Z B c b f. sym (row-22 (view h E Q Z B) c (value t) b f p r (before x false y l) (sym v ∙ o)))
+
+        pub begun : u ≡ false → Tries h t P.Accepted
+        begun o = passes (λ b. record {
+          gives = λ E Q Z B c f. sym (accepted (view h E Q Z B) c (value t) b f p r (before x false y l) (sym v ∙ o));
+          kept = λ es x. accepted-moves x;
+        })
+
+-- Then the run, or nothing.
+module _ (h : Head) (t : SimTime) (b : ℕ) (a : Answer) (d : Tries h t a) where
+  pub running : a ≡ P.Accepted → (k : Head) → k ≡ runningHead h t b → Begins h t b (record { answer = a; head = k })
+  running e k g = subst (λ (k : Head). Begins h t b (record { answer = a; head = k })) (sym g) (d .passed e b)
+
+  pub as-given : OneOf others (tagOf the-type a) → Begins h t b (record { answer = a; head = h })
+  as-given w = decided a d w b

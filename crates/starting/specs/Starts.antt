@@ -11,7 +11,10 @@ use Rattle.rules.specs.Foreign.{foreign}
 use Rattle.rules.specs.Begin.{begin}
 use Rattle.rules.specs.History.{refused}
 use Rattle.state.specs.declared.Head.{Head}
+use Rattle.state.specs.declared.Answer.{Answer}
 use Rattle.state.specs.View.{view, answerOf}
+use Rattle.state.specs.Heads.{runningHead}
+use Rattle.state.specs.Decided.{Decides}
 use Rattle.records.specs.Records.{eventsOf}
 use Rattle.starting.specs.declared.Headed.{Headed}
 
@@ -20,3 +23,9 @@ pub record Begins (h : Head) (horizon : SimTime) (budget : ℕ) (r : Headed) : T
   pub gives : (E P Z B : List ℕ) (c : Counters) → foreign (view h E P Z B) ≡ false
       → out (answerOf (eventsOf (r .head .batch) B) (r .answer)) (view (r .head) E P Z B) c ≡ begin (view h E P Z B) c (value horizon) budget
   pub kept : (es : List Event) → refused (answerOf es (r .answer)) ≡ true → r .head ≡ h
+
+-- The rows' answer, whatever the budget is: a run begins, or all is left as given.
+abbrev pub Tries : Head → SimTime → Answer → Type 0
+Tries h t a = Decides a
+    ((b : ℕ) → Begins h t b (record { answer = a; head = runningHead h t b }))
+    ((b : ℕ) → Begins h t b (record { answer = a; head = h }))

@@ -3,10 +3,13 @@ use state::Answer;
 use state::Head;
 use types::SimTime;
 ghost use mathlib.Core.Path.{_≡_};
+ghost use lib.Dec.{leb};
 ghost use Rattle.types.specs.Value.{value};
 ghost use Rattle.state.specs.View.{storedOf};
+ghost use Rattle.state.specs.Heads.{runningHead};
+ghost use Rattle.rules.specs.State.{top};
 ghost use Rattle.rules.specs.Begin.{previous};
-ghost use Rattle.starting.specs.Starts.{Begins};
+ghost use Rattle.starting.specs.Starts.{Begins, Tries};
 
 // An answer and the head left with it.
 pub struct Headed {
@@ -24,36 +27,38 @@ fn last_horizon(head: Head) -> SimTime
     SimTime::zero()
 }
 
-// Rows 12, 20, 21 and 22, and the run.
-pub fn begin(head: Head, horizon: SimTime, budget: u64) -> Headed
-    ensures { λ r. ⌜ Begins head horizon budget r ⌝ }
+// The tick that nothing is above.
+fn is_largest(tick: SimTime) -> bool
+    ensures { λ r. ⌜ r ≡ leb top (value tick) ⌝ }
+{
+    !tick.lt(SimTime::largest())
+}
+
+// Rows 12, 20, 21 and 22.
+fn refusal(head: Head, horizon: SimTime) -> Answer
+    ensures { λ r. ⌜ Tries head horizon r ⌝ }
 {
     if head.poisoned {
-        return Headed {
-            answer: Answer::Poisoned,
-            head: head,
-        };
+        return Answer::Poisoned;
     }
     if head.running {
-        return Headed {
-            answer: Answer::RunOpen,
-            head: head,
-        };
+        return Answer::RunOpen;
     }
     let last = last_horizon(head);
     if horizon.lt(last) {
-        return Headed {
-            answer: Answer::HorizonRegression(last, horizon),
-            head: head,
-        };
+        return Answer::HorizonRegression(last, horizon);
     }
-    let largest = SimTime::largest();
-    if !horizon.lt(largest) {
-        return Headed {
-            answer: Answer::HorizonOverflow(horizon),
-            head: head,
-        };
+    if is_largest(horizon) {
+        return Answer::HorizonOverflow(horizon);
     }
+    Answer::Accepted
+}
+
+// "Begin stores horizon and budget, closes initial events, sets this run's used count to 0 and opens
+// the run."
+fn opened(head: Head, horizon: SimTime, budget: u64) -> Head
+    ensures { λ r. ⌜ r ≡ runningHead head horizon budget ⌝ }
+{
     let mut h = head;
     h.stored = true;
     h.horizon = horizon;
@@ -61,8 +66,20 @@ pub fn begin(head: Head, horizon: SimTime, budget: u64) -> Headed
     h.used = 0;
     h.initial = false;
     h.running = true;
+    h
+}
+
+// The rows; then the run.
+pub fn begin(head: Head, horizon: SimTime, budget: u64) -> Headed
+    ensures { λ r. ⌜ Begins head horizon budget r ⌝ }
+{
+    let answer = refusal(head, horizon);
+    let mut h = head;
+    if let Answer::Accepted = answer {
+        h = opened(head, horizon, budget);
+    }
     Headed {
-        answer: Answer::Accepted,
+        answer: answer,
         head: h,
     }
 }

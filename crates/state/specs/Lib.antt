@@ -2,3 +2,4 @@ pub mod View
 pub mod Heads
 pub mod Lent
 pub mod Kept
+pub mod Decided

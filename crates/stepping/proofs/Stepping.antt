@@ -1,19 +1,20 @@
 -- What each return of a step gives.
 use mathlib.Core.Path.{_≡_, refl, sym, ap, subst, _∙_}
-use mathlib.Core.Bool.{Bool, true, false, not, _||_}
+use mathlib.Core.Bool.{Bool, true, false, not, _||_, true≢false}
 use mathlib.Core.List.{List, []}
 use Prim.Native.Nat.{ℕ, suc, _*_, _≤_, _<_}
 use native.Mathlib.Omega.{arith}
+use lib.Dec.{eqb}
 use lib.ListN.{length}
-use Rattle.types.specs.declared.SimTime.{SimTime}
+use borrow.Author.Tests.{eqb-true, eqb-false}
 use Rattle.types.specs.Value.{value}
 use Rattle.records.specs.Records.{edgesOf, eventAt, eventsOf}
 use Rattle.rules.specs.Base.{nonEmpty}
-use Rattle.rules.specs.State.{Event, State, withBatch}
+use Rattle.rules.specs.State.{Edge, Event, State, withBatch}
 use Rattle.rules.specs.Answers as A
 use Rattle.rules.specs.Rows.{out}
 use Rattle.rules.specs.Step.{takenAt, stepRun}
-use Rattle.rules.proofs.Tests.{not-both}
+use Rattle.rules.proofs.Tests.{by-bool, not-both}
 use Rattle.rules.proofs.Cases
 use Rattle.rules.proofs.Outcomes.{step-poisoned, step-nothing, step-runs, run-batch}
 use Rattle.frontiers.specs.Tables.{Fronts}
@@ -29,7 +30,13 @@ use Rattle.state.proofs.Moves.{batch-moves}
 use Rattle.advancing.specs.Advances.{Advanceable}
 use Rattle.state.specs.declared.After.{After}
 use Rattle.idling.specs.Idles.{Idle, GoesOn}
-use Rattle.stepping.specs.Steps.{Takeable, HandsOut, Steps}
+use Rattle.stepping.specs.Steps.{Steppable, Tells, Refuses, Frontable, Takeable, HandsOut, batchAnswered, Steps}
+
+positive : (n : ℕ) → (n ≡ 0 → ⊥) → 0 < n
+positive n f = omega arith
+
+pub of-top : (es : List Edge) (t u : ℕ) (S : List ℕ) → t ≡ u → Fronts es t S → Fronts es u S
+of-top es t u S e f = subst (λ (H : ℕ). Fronts es H S) e f
 
 none-is : (es : List Event) → es ≡ [] → nonEmpty es ≡ false
 unfolding nonEmpty
@@ -50,59 +57,86 @@ module _ (h : Head) (c : Counters) (E Q Z B : List ℕ) (l : Lent h E Q Z B) whe
     pub step-held : 0 < h .batch → Steps h c E Q Z B (record { answer = P.NothingToStep; head = h; counters = c }) E Q Z B
     step-held k = record { gives = sym (step-nothing (view h E Q Z B) (countersOf c) (l .passes) p (held-or (h .running) _ (some-events (eventAt B) 0 (h .batch) k))); kept = λ es x. record { same-head = refl; same-counters = refl; same-edges = refl; same-pending = refl; same-horizons = refl; same-batch = refl } }
 
-    module _ (r : h .running ≡ true) (k : h .batch ≤ 0) where
-      steps : Cases.Steps (view h E Q Z B) (value (h .horizon)) (h .budget)
-      steps = record {
-        passes = l .passes;
-        healthy = p;
-        open-run = r;
-        empty = no-events (eventAt B) 0 (h .batch) k;
-        stored = stored-is (h .stored) (value (h .horizon)) (h .budget) (is-stored h E Q Z B (l .passes) r);
-      }
+-- 12 and 23, where one of them refuses.
+pub refusing : (h : Head) (c : Counters) → h .poisoned ≡ true → Refuses h c (record { answer = P.Poisoned; head = h; counters = c })
+refusing h c p = λ E Q Z B l. step-dead h c E Q Z B l p
 
-      module _ (Q′ B′ S : List ℕ) (top : SimTime) (g : Head)
-          (et : value top ≡ suc (value (h .horizon)))
-          (fr : Fronts (edgesOf (h .edges) E) (value top) S)
-          (ho : HandsOut h Q S B g Q′ B′) where
-        fronts : Fronts (edgesOf (h .edges) E) (suc (value (h .horizon))) S
-        fronts = subst (λ (H : ℕ). Fronts (edgesOf (h .edges) E) H S) et fr
+pub nothing : (h : Head) (c : Counters) → (Steppable h → ⊥) → h .poisoned ≡ false → Refuses h c (record { answer = P.NothingToStep; head = h; counters = c })
+nothing h c n p = λ E Q Z B l. by-bool (h .running)
+    (λ r. step-held h c E Q Z B l p (positive (h .batch) (λ e. n (record { healthy = p; open-run = r; empty = e }))))
+    (λ r. step-closed h c E Q Z B l p (rw r))
 
-        taken : view g E Q′ Z B′ ≡ withBatch (view h E Q Z B) (takenAt (view h E Q Z B) (value (h .horizon)) (h .budget) .events) (takenAt (view h E Q Z B) (value (h .horizon)) (h .budget) .left)
-        taken = ho .state E Z fronts
+-- 12 and 23, as the program tests them.
+module _ (h : Head) where
+  pub tells-dead : h .poisoned ≡ true → Tells h false
+  tells-dead p = record { yes-step = λ e. absurd (true≢false (sym e)); no-step = λ _ s. not-both p (s .healthy) }
 
-        events : eventsOf (g .batch) B′ ≡ takenAt (view h E Q Z B) (value (h .horizon)) (h .budget) .events
-        events = ap (λ (s : State). s .batch) taken
+  module _ (p : h .poisoned ≡ false) where
+    pub tells-closed : h .running ≡ false → Tells h false
+    tells-closed r = record { yes-step = λ e. absurd (true≢false (sym e)); no-step = λ _ s. not-both (s .open-run) r }
 
-        pub step-batch : 0 < g .batch → Steps h c E Q Z B (record { answer = P.Batch (g .gvt); head = g; counters = c }) E Q′ Z B′
-        step-batch b = record {
-          gives = (λ j. out (A.Batch (taken j .batch) (taken j .gvt)) (taken j) (countersOf c))
-              ∙ sym (step-runs (view h E Q Z B) (countersOf c) (value (h .horizon)) (h .budget) steps
-              ∙ run-batch (view h E Q Z B) (countersOf c) (value (h .horizon)) (h .budget) (ap nonEmpty (sym events) ∙ some-events (eventAt B′) 0 (g .batch) b));
-          kept = λ es x. not-both x (batch-moves es (value (g .gvt)));
-        }
+    pub tells-held : h .running ≡ true → Tells h (eqb (h .batch) 0)
+    tells-held r = record {
+      yes-step = λ e. record { healthy = p; open-run = r; empty = eqb-true (h .batch) 0 e };
+      no-step = λ e s. eqb-false (h .batch) 0 e (s .empty);
+    }
 
-        module _ (b : g .batch ≤ 0) where
-          same : view (withCounts h (g .pending) (g .batch)) E Q′ Z B′ ≡ view h E Q Z B
-          same =
-              let n = ho .none (omega arith) in
-              let e : eventsOf (g .batch) B′ ≡ eventsOf (h .batch) B = no-events (eventAt B′) 0 (g .batch) b ∙ sym (no-events (eventAt B) 0 (h .batch) k) in
-              λ j. withBatch (view h E Q Z B) (e j) (n .1 j)
+-- What follows them: a batch, or what is done without one.
+module _ (h : Head) (c : Counters) (E Q Z B : List ℕ) (l : Lent h E Q Z B) (p : Steppable h) where
+  none-held : h .batch ≤ 0
+  none-held = omega (arith, p .empty)
 
-          idle : Idle (view h E Q Z B) (value (h .horizon)) (h .budget)
-          idle = record { steps = steps; none-taken = none-is _ (sym events ∙ no-events (eventAt B′) 0 (g .batch) b) }
+  steps : Cases.Steps (view h E Q Z B) (value (h .horizon)) (h .budget)
+  steps = record {
+    passes = l .passes;
+    healthy = p .healthy;
+    open-run = p .open-run;
+    empty = no-events (eventAt B) 0 (h .batch) none-held;
+    stored = stored-is (h .stored) (value (h .horizon)) (h .budget) (is-stored h E Q Z B (l .passes) (p .open-run));
+  }
 
-          pub step-on : (E′ Z′ : List ℕ) (q : After) → GoesOn g c E Q′ Z S q E′ Z′ → Steps h c E Q Z B q E′ Q′ Z′ B′
-          step-on E′ Z′ q go =
-              let go′ : GoesOn (withCounts h (g .pending) (g .batch)) c E Q′ Z S q E′ Z′ = subst (λ (x : Head). GoesOn x c E Q′ Z S q E′ Z′) (ho .head) go in
-              record {
-                gives = go′ .gives B′ fronts (subst (λ (s : State). Idle s (value (h .horizon)) (h .budget)) (sym same) idle)
-                    ∙ ap (λ (s : State). stepRun s (countersOf c) (value (h .horizon)) (h .budget)) same
-                    ∙ sym (step-runs (view h E Q Z B) (countersOf c) (value (h .horizon)) (h .budget) steps);
-                kept = λ es x. not-both x (go .moves es);
-              }
+  module _ (Q′ B′ S : List ℕ) (g : Head)
+      (fronts : Fronts (edgesOf (h .edges) E) (suc (value (h .horizon))) S)
+      (ho : HandsOut h Q S B g Q′ B′) where
+    taken : view g E Q′ Z B′ ≡ withBatch (view h E Q Z B) (takenAt (view h E Q Z B) (value (h .horizon)) (h .budget) .events) (takenAt (view h E Q Z B) (value (h .horizon)) (h .budget) .left)
+    taken = ho .state E Z fronts
+
+    events : eventsOf (g .batch) B′ ≡ takenAt (view h E Q Z B) (value (h .horizon)) (h .budget) .events
+    events = ap (λ (s : State). s .batch) taken
+
+    pub step-batch : 0 < g .batch → Steps h c E Q Z B (batchAnswered g c) E Q′ Z B′
+    step-batch b = record {
+      gives = (λ j. out (A.Batch (taken j .batch) (taken j .gvt)) (taken j) (countersOf c))
+          ∙ sym (step-runs (view h E Q Z B) (countersOf c) (value (h .horizon)) (h .budget) steps
+          ∙ run-batch (view h E Q Z B) (countersOf c) (value (h .horizon)) (h .budget) (ap nonEmpty (sym events) ∙ some-events (eventAt B′) 0 (g .batch) b));
+      kept = λ es x. not-both x (batch-moves es (value (g .gvt)));
+    }
+
+    module _ (b : g .batch ≤ 0) where
+      same : view (withCounts h (g .pending) (g .batch)) E Q′ Z B′ ≡ view h E Q Z B
+      same =
+          let n = ho .none (omega arith) in
+          let e : eventsOf (g .batch) B′ ≡ eventsOf (h .batch) B = no-events (eventAt B′) 0 (g .batch) b ∙ sym (no-events (eventAt B) 0 (h .batch) none-held) in
+          λ j. withBatch (view h E Q Z B) (e j) (n .1 j)
+
+      idle : Idle (view h E Q Z B) (value (h .horizon)) (h .budget)
+      idle = record { steps = steps; none-taken = none-is _ (sym events ∙ no-events (eventAt B′) 0 (g .batch) b) }
+
+      pub step-on : (E′ Z′ : List ℕ) (q : After) → GoesOn g c E Q′ Z S q E′ Z′ → Steps h c E Q Z B q E′ Q′ Z′ B′
+      step-on E′ Z′ q go =
+          let go′ : GoesOn (withCounts h (g .pending) (g .batch)) c E Q′ Z S q E′ Z′ = subst (λ (x : Head). GoesOn x c E Q′ Z S q E′ Z′) (ho .head) go in
+          record {
+            gives = go′ .gives B′ fronts (subst (λ (s : State). Idle s (value (h .horizon)) (h .budget)) (sym same) idle)
+                ∙ ap (λ (s : State). stepRun s (countersOf c) (value (h .horizon)) (h .budget)) same
+                ∙ sym (step-runs (view h E Q Z B) (countersOf c) (value (h .horizon)) (h .budget) steps);
+            kept = λ es x. not-both x (go .moves es);
+          }
 
 -- What the parts ask.
 module _ (h : Head) (E Q Z B : List ℕ) (l : Lent h E Q Z B) where
+  pub frontable : h .running ≡ true → (S : List ℕ) → length S ≡ 128 → Frontable h E S
+  frontable r S n = record { edge-words = omega (arith, l .edge-words, few-edges h E Q Z B (l .passes)); safe-words = n; horizon = below-top h E Q Z B (l .passes) r }
+
   pub takeable : (S : List ℕ) → length S ≡ 128 → Takeable h Q S B
   takeable S n = record {
     few-processes = few-processes h E Q Z B (l .passes);

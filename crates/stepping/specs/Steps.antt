@@ -1,8 +1,8 @@
 -- What the core of a step asks and leaves, in the words of the rules.
 use mathlib.Core.Path.{_≡_}
-use mathlib.Core.Bool.{true}
+use mathlib.Core.Bool.{Bool, true, false}
 use mathlib.Core.List.{List}
-use Prim.Native.Nat.{ℕ, suc, _≤_, _<_}
+use Prim.Native.Nat.{ℕ, suc, _*_, _^_, _-_, _≤_, _<_}
 use lib.ListN.{length}
 use Rattle.types.specs.Value.{value}
 use Rattle.records.specs.Records.{edgesOf, eventsOf}
@@ -15,8 +15,10 @@ use Rattle.rules.proofs.Lists.{All}
 use Rattle.frontiers.specs.Tables.{Fronts}
 use Rattle.state.specs.declared.Head.{Head}
 use Rattle.state.specs.declared.Counters.{Counters}
+use Rattle.state.specs.declared.Answer.the-variants as P
 use Rattle.state.specs.View.{view, countersOf, answerOf}
 use Rattle.state.specs.Heads.{withCounts}
+use Rattle.state.specs.Lent.{Lent}
 use Rattle.state.specs.Kept.{unmoved, Same}
 use Rattle.state.specs.declared.After.{After}
 
@@ -40,3 +42,27 @@ pub record HandsOut (h : Head) (pending safe batch : List ℕ) (r : Head) (pendi
 pub record Steps (h : Head) (c : Counters) (edges pending horizons batch : List ℕ) (r : After) (edges′ pending′ horizons′ batch′ : List ℕ) : Type 0 where
   pub gives : out (answerOf (eventsOf (r .head .batch) batch′) (r .answer)) (view (r .head) edges′ pending′ horizons′ batch′) (countersOf (r .counters)) ≡ step (view h edges pending horizons batch) (countersOf c)
   pub kept : (es : List Event) → unmoved (answerOf es (r .answer)) ≡ true → Same h c edges pending horizons batch r edges′ pending′ horizons′ batch′
+
+-- 12 and 23 let the step pass.
+pub record Steppable (h : Head) : Type 0 where
+  pub healthy : h .poisoned ≡ false
+  pub open-run : h .running ≡ true
+  pub empty : h .batch ≡ 0
+
+pub record Tells (h : Head) (t : Bool) : Type 0 where
+  pub yes-step : t ≡ true → Steppable h
+  pub no-step : t ≡ false → Steppable h → ⊥
+
+-- All is left as given, whatever the arrays are.
+abbrev pub Refuses : Head → Counters → After → Type 0
+Refuses h c r = (E P Z B : List ℕ) → Lent h E P Z B → Steps h c E P Z B r E P Z B
+
+-- What the frontiers ask.
+pub record Frontable (h : Head) (edges safe : List ℕ) : Type 0 where
+  pub edge-words : 4 * h .edges ≤ length edges
+  pub safe-words : length safe ≡ 128
+  pub horizon : value (h .horizon) < 2 ^ 128 - 1
+
+-- The batch in hand is answered.
+abbrev pub batchAnswered : Head → Counters → After
+batchAnswered h c = record { answer = P.Batch (h .gvt); head = h; counters = c }

@@ -5,9 +5,12 @@ use state::Answer;
 use state::Counters;
 use state::Head;
 ghost use mathlib.Core.Path.{_≡_};
-ghost use Prim.Native.Nat.{_-_};
+ghost use Prim.Native.Nat.{suc, _-_};
+ghost use Rattle.types.specs.Value.{value};
+ghost use Rattle.records.specs.Records.{edgesOf};
+ghost use Rattle.frontiers.specs.Tables.{Fronts};
 ghost use Rattle.state.specs.Lent.{Lent};
-ghost use Rattle.stepping.specs.Steps.{Takeable, HandsOut, Steps};
+ghost use Rattle.stepping.specs.Steps.{Steppable, Tells, Refuses, Frontable, Takeable, HandsOut, batchAnswered, Steps};
 
 // a - b, or 0.
 fn left_of(a: u64, b: u64) -> u64
@@ -32,6 +35,56 @@ fn hand_out(head: Head, pending: &mut [u64], safe: &[u64], batch: &mut [u64]) ->
     h
 }
 
+// Rows 12 and 23 let the step pass.
+fn can_step(head: Head) -> bool
+    ensures { λ r. ⌜ Tells head r ⌝ }
+{
+    if head.poisoned {
+        return false;
+    }
+    if !head.running {
+        return false;
+    }
+    head.batch == 0
+}
+
+// Rows 12 and 23, where one of them refuses: all is left as given.
+fn refused(head: Head, counters: Counters) -> After
+    requires { ⌜ (Steppable head → ⊥) ⌝ }
+    ensures { λ r. ⌜ Refuses head counters r ⌝ }
+{
+    let mut answer = Answer::NothingToStep;
+    if head.poisoned {
+        answer = Answer::Poisoned;
+    }
+    After {
+        answer: answer,
+        head: head,
+        counters: counters,
+    }
+}
+
+// safe(p) of every process.
+fn find_safe(head: Head, edges: &[u64], safe: &mut [u64])
+    requires { ⌜ Frontable head (now edges) (now safe) ⌝ }
+    ensures { λ _. ⌜ Fronts (edgesOf (head .edges) (now (edges .entry))) (suc (value (head .horizon))) (now (safe .exit)) ⌝ }
+{
+    let horizon = head.horizon;
+    frontiers::frontiers(edges, head.edges, one_more(horizon), safe);
+}
+
+// The batch is answered.
+fn handed_out(head: Head, counters: Counters) -> After
+    ensures { λ r. ⌜ r ≡ batchAnswered head counters ⌝ }
+{
+    let gvt = head.gvt;
+    After {
+        answer: Answer::Batch(gvt),
+        head: head,
+        counters: counters,
+    }
+}
+
 // Rows 12 and 23; then the batch, or what is done without one.
 pub fn step(
     head: Head,
@@ -44,40 +97,14 @@ pub fn step(
     requires { ⌜ Lent head (now edges) (now pending) (now horizons) (now batch) ⌝ }
     ensures { λ r. ⌜ Steps head counters (now (edges .entry)) (now (pending .entry)) (now (horizons .entry)) (now (batch .entry)) r (now (edges .exit)) (now (pending .exit)) (now (horizons .exit)) (now (batch .exit)) ⌝ }
 {
-    if head.poisoned {
-        return After {
-            answer: Answer::Poisoned,
-            head: head,
-            counters: counters,
-        };
+    if !can_step(head) {
+        return refused(head, counters);
     }
-    if !head.running {
-        return After {
-            answer: Answer::NothingToStep,
-            head: head,
-            counters: counters,
-        };
-    }
-    if 0 < head.batch {
-        return After {
-            answer: Answer::NothingToStep,
-            head: head,
-            counters: counters,
-        };
-    }
-    let count = head.edges;
-    let horizon = head.horizon;
-    let top = one_more(horizon);
     let mut safe = [0u64; 128];
-    frontiers::frontiers(edges, count, top, &mut safe);
+    find_safe(head, edges, &mut safe);
     let h = hand_out(head, pending, &safe, batch);
-    let gvt = h.gvt;
     if 0 < h.batch {
-        return After {
-            answer: Answer::Batch(gvt),
-            head: h,
-            counters: counters,
-        };
+        return handed_out(h, counters);
     }
     idling::go_on(h, counters, edges, pending, horizons, &mut safe)
 }

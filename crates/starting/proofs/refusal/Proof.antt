@@ -1,0 +1,41 @@
+use borrow.Author.Needs.{needs}
+use Rattle.starting.proofs.Beginning.{poisoned, run-open, regression, overflow, begun}
+use Rattle.starting.proofs.refusal.Statement.{statement}
+use Rattle.starting.proofs.refusal.Tie as tie
+
+returns : tie.Need-returns
+returns c = search (poisoned, needs)
+
+returns-2 : tie.Need-returns-2
+returns-2 c = search (run-open, needs)
+
+last-horizon-requires : tie.Need-last-horizon-requires
+last-horizon-requires c κs = search needs
+
+lt-requires : tie.Need-lt-requires
+lt-requires c κs = search needs
+
+returns-3 : tie.Need-returns-3
+returns-3 c = search (regression, needs)
+
+is-largest-requires : tie.Need-is-largest-requires
+is-largest-requires c κs = search needs
+
+returns-4 : tie.Need-returns-4
+returns-4 c = search (overflow, needs)
+
+returns-5 : tie.Need-returns-5
+returns-5 c = search (begun, needs)
+
+pub refusal-spec : {M : Type 1} → statement M
+refusal-spec =
+    tie.close
+    (tie.spec
+    returns
+    returns-2
+    last-horizon-requires
+    lt-requires
+    returns-3
+    is-largest-requires
+    returns-4
+    returns-5)
