@@ -124,24 +124,24 @@ fn read_reply(tag: u64, reply: &mut [u64]) -> usize {
     end
 }
 
-fn call_of(tag: u64, args: [u64; ARGS]) -> Call {
-    let a = args[0];
-    let b = args[1];
-    let c = args[2];
-    let message = Message {
-        source: LpId(id_of(a)),
-        destination: LpId(id_of(b)),
-        time: SimTime::from_ticks(c, args[3]),
+fn message_of(args: [u64; ARGS]) -> Message {
+    Message {
+        source: LpId(id_of(args[0])),
+        destination: LpId(id_of(args[1])),
+        time: SimTime::from_ticks(args[2], args[3]),
         len: args[4],
         p0: args[5],
         p1: args[6],
-    };
+    }
+}
+
+fn call_of(tag: u64, args: [u64; ARGS]) -> Call {
     Call {
         tag: tag,
-        message: message,
-        horizon: SimTime::from_ticks(a, b),
-        budget: c,
-        mask: a,
+        message: message_of(args),
+        horizon: SimTime::from_ticks(args[0], args[1]),
+        budget: args[2],
+        mask: args[0],
     }
 }
 
@@ -273,14 +273,18 @@ fn carry_out_on(built: Built) -> bool {
     passing::pass_calls()
 }
 
-// The ids in the words go to the front of ids, as many as there is room for.
-fn narrow(words: &[u64], ids: &mut [u32]) {
+// The ids in every `step`-th word go to the front of ids, as many as there is room for.
+fn narrow(words: &[u64], step: usize, ids: &mut [u32])
+    requires { ⌜ step ≤ 2 ⌝ }
+{
     let mut i: usize = 0;
+    let mut at: usize = 0;
     while i < ids.len() {
-        if words.len() <= i {
+        if words.len() <= at {
             return;
         }
-        ids[i] = id_of(words[i]);
+        ids[i] = id_of(words[at]);
+        at += step;
         i += 1;
     }
 }
@@ -289,57 +293,59 @@ fn narrow(words: &[u64], ids: &mut [u32]) {
 fn read_ids(ids: &mut [u32]) -> usize {
     let mut words = [0u64; PLACES];
     let count = read_list(&mut words, ID);
-    narrow(&words, ids);
+    narrow(&words, ID, ids);
     count
 }
 
-// Each row's source and its count go to the fronts of these, as many as there is room for.
-fn split(words: &[u64], sources: &mut [u32], counts: &mut [u64]) {
-    let rows = words.len() / ROW;
+// The counts of rows, each the second word of its row.
+fn pick_counts(words: &[u64], counts: &mut [u64]) {
     let mut i: usize = 0;
-    while i < rows {
-        if sources.len() <= i {
+    let mut at: usize = 1;
+    while i < counts.len() {
+        if words.len() <= at {
             return;
         }
-        if counts.len() <= i {
-            return;
-        }
-        sources[i] = id_of(words[ROW * i]);
-        counts[i] = words[ROW * i + 1];
+        counts[i] = words[at];
+        at += ROW;
         i += 1;
     }
 }
 
-// A number, and so many rows to the fronts of these; how many came.
+// A number, and so many rows: their sources and their counts go to the fronts of these; how many came.
 fn read_rows(sources: &mut [u32], counts: &mut [u64]) -> usize {
     let mut words = [0u64; ROW_WORDS];
     let count = read_list(&mut words, ROW);
-    split(&words, sources, counts);
+    narrow(&words, ROW, sources);
+    pick_counts(&words, counts);
     count
 }
 
-// Reads the rows and the destinations of a build whose ids are read, builds, and carries the list out.
-fn carry_out_topology<'a>(n: u64, lookahead: SimDuration, ids: &'a [u32]) -> bool {
-    let mut sources = [0u32; PLACES];
-    let mut counts = [0u64; PLACES];
+// Reads the destinations, builds, and carries the list out.
+fn carry_out_edges<'a>(
+    n: u64,
+    lookahead: SimDuration,
+    ids: &'a [u32],
+    sources: &'a [u32],
+    counts: &'a [u64],
+) -> bool {
     let mut destinations = [0u32; PLACES];
-    let rows = read_rows(&mut sources, &mut counts);
-    if PLACES < rows {
-        return false;
-    }
     let edges = read_ids(&mut destinations);
     if PLACES < edges {
         return false;
     }
-    carry_out_on(runtime::build(
-        n,
-        lookahead,
-        ids,
-        &sources[..rows],
-        &counts[..rows],
-        &destinations[..edges],
-        no_counters(),
-    ))
+    let lent = &destinations[..edges];
+    carry_out_on(runtime::build(n, lookahead, ids, sources, counts, lent, no_counters()))
+}
+
+// Reads the rows, and carries the list out.
+fn carry_out_rows<'a>(n: u64, lookahead: SimDuration, ids: &'a [u32]) -> bool {
+    let mut sources = [0u32; PLACES];
+    let mut counts = [0u64; PLACES];
+    let rows = read_rows(&mut sources, &mut counts);
+    if PLACES < rows {
+        return false;
+    }
+    carry_out_edges(n, lookahead, ids, &sources[..rows], &counts[..rows])
 }
 
 // A list of calls; whether all of it could be decoded.
@@ -354,7 +360,7 @@ fn carry_out_list() -> bool {
         return false;
     }
     let lookahead = SimDuration::from_ticks(head[1], head[2]);
-    carry_out_topology(head[0], lookahead, &ids[..count])
+    carry_out_rows(head[0], lookahead, &ids[..count])
 }
 
 // Nothing says that an input ends, so the lists are counted down from a number that none has.

@@ -32,20 +32,20 @@ array-read-from-ticks-2 c = search needs
 from-ticks-requires : tie.Need-from-ticks-requires
 from-ticks-requires c κs = search needs
 
-array-read-carry-out-topology : tie.Need-array-read-carry-out-topology
-array-read-carry-out-topology c = search needs
+array-read-carry-out-rows : tie.Need-array-read-carry-out-rows
+array-read-carry-out-rows c = search needs
 
 array-share-prefix-ids : tie.Need-array-share-prefix-ids
 array-share-prefix-ids c = search needs
 
-slice-aggregate-carry-out-topology : tie.Need-slice-aggregate-carry-out-topology
-slice-aggregate-carry-out-topology c =
+slice-aggregate-carry-out-rows : tie.Need-slice-aggregate-carry-out-rows
+slice-aggregate-carry-out-rows c =
     let q = c .before .before .before .before .read-ids in
     let k = q .kept .0 in
     sym (length-take-le (q .result) (q .last .0) (omega arith))
 
-carry-out-topology-requires : tie.Need-carry-out-topology-requires
-carry-out-topology-requires c κs = search needs
+carry-out-rows-requires : tie.Need-carry-out-rows-requires
+carry-out-rows-requires c κs = search needs
 
 returns-3 : tie.Need-returns-3
 returns-3 c = search needs
@@ -63,8 +63,8 @@ carry-out-list-spec =
     array-read-from-ticks
     array-read-from-ticks-2
     from-ticks-requires
-    array-read-carry-out-topology
+    array-read-carry-out-rows
     array-share-prefix-ids
-    slice-aggregate-carry-out-topology
-    carry-out-topology-requires
+    slice-aggregate-carry-out-rows
+    carry-out-rows-requires
     returns-3)

@@ -7,10 +7,10 @@ use Rattle.calls_main.proofs.narrow.Statement.{statement}
 use Rattle.calls_main.proofs.narrow.Tie as tie
 
 abbrev Inv-loop : tie.InvT-loop
-Inv-loop words ids₀ i₀ ids i = length ids ≡ length ids₀
+Inv-loop words step ids₀ i₀ at₀ ids i at = length ids ≡ length ids₀
 
 abbrev μ-loop : tie.MeasureT-loop
-μ-loop words ids₀ i₀ ids i = length ids₀ - i
+μ-loop words step ids₀ i₀ at₀ ids i at = length ids₀ - i
 
 loop-holds : tie.Need-loop-holds Inv-loop μ-loop
 loop-holds c = search needs
@@ -35,6 +35,9 @@ mul-ids c = omega arith
 
 slice-write-ids : tie.Need-slice-write-ids Inv-loop μ-loop
 slice-write-ids c = omega arith
+
+add-at : tie.Need-add-at Inv-loop μ-loop
+add-at c = omega arith
 
 add-i : tie.Need-add-i Inv-loop μ-loop
 add-i c = omega arith
@@ -65,6 +68,7 @@ narrow-spec =
     id-of-requires
     mul-ids
     slice-write-ids
+    add-at
     add-i
     loop-less
     loop-again
