@@ -24,24 +24,24 @@ const EVENT: usize = 8;
 // The digits of a word of payload, two for each byte.
 const DIGITS: usize = 16;
 
-// Behind the numbers of document 01's refusals, those of the other words that a line begins with.
-const ACCEPTED: u64 = 40;
+// Above every number of a refusal, those of the other words that a line begins with.
+const ACCEPTED: u64 = 100;
 
-const BATCH: u64 = 41;
+const BATCH: u64 = 101;
 
-const ADVANCED: u64 = 42;
+const ADVANCED: u64 = 102;
 
-const FINISHED: u64 = 43;
+const FINISHED: u64 = 103;
 
-const COMMITTED: u64 = 44;
+const COMMITTED: u64 = 104;
 
-const GVT: u64 = 45;
+const GVT: u64 = 105;
 
-const COUNTERS: u64 = 46;
+const COUNTERS: u64 = 106;
 
-const PENDING: u64 = 47;
+const PENDING: u64 = 107;
 
-const EARLIEST: u64 = 48;
+const EARLIEST: u64 = 108;
 
 const REFUSED: usize = 9;
 
