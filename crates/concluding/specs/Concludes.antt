@@ -2,7 +2,7 @@
 use mathlib.Core.Path.{_≡_}
 use mathlib.Core.Bool.{false}
 use mathlib.Core.List.{List}
-use Prim.Native.Nat.{ℕ, _*_, _^_, _-_, _≤_, _<_}
+use Prim.Native.Nat.{ℕ, suc, _*_, _^_, _-_, _≤_, _<_}
 use lib.ListN.{length}
 use Rattle.types.specs.Value.{value}
 use Rattle.records.specs.Records.{eventsOf}
@@ -22,6 +22,7 @@ use Rattle.state.specs.declared.After.{After}
 use Rattle.state.specs.View.{view, countersOf, answerOf}
 use Rattle.state.specs.Heads.{poisonedHead}
 use Rattle.state.specs.Kept.{unmoved}
+use Rattle.advancing.specs.Advances.{Tabled}
 
 -- The counters c after a round that handled the events es and emitted the xs.
 unfoldable pub Counts : Counters → ℕ → ℕ → ℕ → Counters → Type 0
@@ -50,3 +51,8 @@ pub record Concludes (h : Head) (c : Counters) (edges pending horizons : List �
   pub gives : (B : List ℕ) → Queued (h .n) (h .next) (eventsOf (h .pending) pending)
       → out (answerOf (eventsOf (r .head .batch) B) (r .answer)) (view (r .head) edges pending horizons′ B) (countersOf (r .counters)) ≡ concluded (view h edges pending horizons B) (countersOf c) (value (h .horizon)) (h .budget)
   pub moves : (es : List Event) → unmoved (answerOf es (r .answer)) ≡ false
+
+-- The head and the local horizons are the rules' refreshed ones, of whatever state with this head the tables are.
+pub record Refreshed (h : Head) (horizons safe first : List ℕ) (r : Head) (horizons′ : List ℕ) : Type 0 where
+  pub state : (E P B : List ℕ) → Queued (h .n) (h .next) (eventsOf (h .pending) P) → Tabled (view h E P horizons B) (suc (value (h .horizon))) safe first
+      → let s = view h E P horizons B in view r E P horizons′ B ≡ refreshed s (value (h .horizon)) (s .edges) (s .edges) (s .horizons)

@@ -6,7 +6,8 @@ use state::Head;
 ghost use mathlib.Core.Path.{_≡_};
 ghost use Prim.Native.Nat.{_*_, _≤_, max};
 ghost use lib.ListN.{length};
-ghost use Rattle.concluding.specs.Concludes.{Counts, Loses, Concludable, Concludes};
+ghost use Rattle.state.specs.Heads.{poisonedHead};
+ghost use Rattle.concluding.specs.Concludes.{Counts, Loses, Refreshed, Concludable, Concludes};
 
 fn larger(a: u64, b: u64) -> u64
     ensures { λ r. ⌜ r ≡ max a b ⌝ }
@@ -28,21 +29,38 @@ pub fn count_round(counters: Counters, handled: u64, emitted: u64, remote: u64) 
     c
 }
 
-// "'Poisoned' in the last column: the batch is lost, poisoned is set, all else stands." Freed places
-// are zero.
+// "the batch is lost, poisoned is set, all else stands".
+fn poisoned(head: Head) -> Head
+    ensures { λ r. ⌜ r ≡ poisonedHead head ⌝ }
+{
+    let mut h = head;
+    h.batch = 0;
+    h.poisoned = true;
+    h
+}
+
+// "'Poisoned' in the last column" of a refusal. Freed places are zero.
 pub fn lose(answer: Answer, head: Head, counters: Counters, batch: &mut [u64]) -> After
     requires { ⌜ 8 * head .batch ≤ length (now batch) ⌝ }
     ensures { λ r. ⌜ Loses answer head counters r ⌝ }
 {
     words::clear(batch, 0, 8 * head.batch);
-    let mut h = head;
-    h.batch = 0;
-    h.poisoned = true;
     After {
         answer: answer,
-        head: h,
+        head: poisoned(head),
         counters: counters,
     }
+}
+
+// "refresh": local horizons rise to their aims, and GVT.
+fn refreshed<'a>(head: Head, horizons: &mut [u64], safe: &mut [u64], first: &'a [u64]) -> Head
+    requires { ⌜ (head .n ≤ 64) × (length (now horizons) ≡ 128) × (length (now safe) ≡ 128) × (length (now first) ≡ 128) ⌝ }
+    ensures { λ r. ⌜ Refreshed head (now (horizons .entry)) (now (safe .entry)) (now (first .entry)) r (now (horizons .exit)) ⌝ }
+{
+    aiming::aims(safe, first);
+    let risen = advancing::refresh(head, first, horizons, safe);
+    let h = risen.head;
+    h
 }
 
 // The round is counted and the batch gone: "Then 24 if used >= budget and an event is eligible,
@@ -69,9 +87,7 @@ pub fn conclude<'a>(
             counters: counters,
         };
     }
-    aiming::aims(&mut safe, &first);
-    let risen = advancing::refresh(head, &first, horizons, &safe);
-    let h = risen.head;
+    let h = refreshed(head, horizons, &mut safe, &first);
     let gvt = h.gvt;
     After {
         answer: Answer::Committed(gvt),

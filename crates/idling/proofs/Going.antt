@@ -15,13 +15,12 @@ use Rattle.rules.proofs.Shape.{shaped}
 use Rattle.frontiers.specs.Tables.{Fronts, Firsts}
 use Rattle.state.specs.declared.Head.{Head}
 use Rattle.state.specs.declared.Counters.{Counters}
-use Rattle.state.specs.declared.Answer.the-variants as P
+use Rattle.state.specs.declared.After.{After}
 use Rattle.state.specs.View.{view, countersOf}
-use Rattle.state.specs.Heads.{closedHead}
 use Rattle.state.proofs.Moves.{spent-moves, advanced-moves, finished-moves}
 use Rattle.advancing.specs.declared.Advanced.{Advanced}
 use Rattle.advancing.specs.Advances.{Tabled, Spends, AdvancesTo, Advances}
-use Rattle.idling.specs.Idles.{Idle, GoesOn}
+use Rattle.idling.specs.Idles.{Idle, GoesOn, spentOf, Rises, finishedOf}
 
 module _ (h : Head) (c : Counters) (E Q Z S F : List ℕ) (top : SimTime) (u : Bool)
     (et : value top ≡ suc (value (h .horizon)))
@@ -35,24 +34,24 @@ module _ (h : Head) (c : Counters) (E Q Z S F : List ℕ) (top : SimTime) (u : B
     unfolding Spends
     spent-is b e = sym (sp E Q Z B tabled) ∙ e
 
-  pub goes-spent : u ≡ true → GoesOn h c E Q Z S (record { answer = P.EventBudgetExceeded (h .budget); head = closedHead h; counters = c }) E Z
+  pub goes-spent : u ≡ true → GoesOn h c E Q Z S (spentOf h c) E Z
   goes-spent e = record { gives = λ B f i. sym (run-spent (view h E Q Z B) (countersOf c) (value (h .horizon)) (h .budget) (i .none-taken) (spent-is B f true e)); moves = λ es. spent-moves (h .budget) }
 
   module _ (e : u ≡ false) (E′ Z′ : List ℕ) (r : Advanced) (ad : Advances h E Z S F r E′ Z′) where
     to : (B : List ℕ) → Fronts (edgesOf (h .edges) E) (suc (value (h .horizon))) S → Idle (view h E Q Z B) (value (h .horizon)) (h .budget) → AdvancesTo (view h E Q Z B) (value (h .horizon)) r (view (r .head) E′ Q Z′ B)
     to B f i = ad .advances Q B (shaped (view h E Q Z B) (i .steps .passes) .queued) (tabled B f)
 
-    pub goes-up : (k : Counters) → r .rose ≡ true → countersOf k ≡ countAdvance (countersOf c) (r .raised) → GoesOn h c E Q Z S (record { answer = P.Advanced (r .head .gvt); head = r .head; counters = k }) E′ Z′
-    goes-up k up ek = record {
+    pub goes-up : (q : After) → r .rose ≡ true → Rises (r .head) c (r .raised) q → GoesOn h c E Q Z S q E′ Z′
+    goes-up q up w = rw (w .after) (record {
       gives = λ B f i.
           let a = to B f i in
-          let n : countersOf k ≡ countAdvance (countersOf c) _ = ek ∙ ap (countAdvance (countersOf c)) (a .raised) in
+          let n : countersOf (q .counters) ≡ countAdvance (countersOf c) _ = w .counted ∙ ap (countAdvance (countersOf c)) (a .raised) in
           (λ j. out (A.Advanced (a .state j .gvt)) (a .state j) (n j))
           ∙ sym (run-rise (view h E Q Z B) (countersOf c) (value (h .horizon)) (h .budget) (i .none-taken) (spent-is B f false e) (sym (a .rose) ∙ up));
       moves = λ es. advanced-moves (value (r .head .gvt));
-    }
+    })
 
-    pub goes-finished : r .rose ≡ false → GoesOn h c E Q Z S (record { answer = P.Finished (r .head .gvt); head = closedHead (r .head); counters = c }) E′ Z′
+    pub goes-finished : r .rose ≡ false → GoesOn h c E Q Z S (finishedOf (r .head) c) E′ Z′
     goes-finished up = record {
       gives = λ B f i.
           let a = to B f i in

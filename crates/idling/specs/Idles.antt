@@ -8,13 +8,15 @@ use Rattle.records.specs.Records.{edgesOf, eventsOf}
 use Rattle.rules.specs.Base.{nonEmpty}
 use Rattle.rules.specs.State.{Event, State}
 use Rattle.rules.specs.Rows.{out}
-use Rattle.rules.specs.Step.{takenAt, stepRun}
+use Rattle.rules.specs.Step.{takenAt, countAdvance, stepRun}
 use Rattle.rules.proofs.Cases
 use Rattle.frontiers.specs.Tables.{Fronts}
 use Rattle.state.specs.declared.Head.{Head}
 use Rattle.state.specs.declared.Counters.{Counters}
+use Rattle.state.specs.declared.Answer.the-variants as P
 use Rattle.state.specs.declared.After.{After}
 use Rattle.state.specs.View.{view, countersOf, answerOf}
+use Rattle.state.specs.Heads.{closedHead}
 use Rattle.state.specs.Kept.{unmoved}
 
 -- A step of s, in a run with horizon h and budget b, that takes nothing.
@@ -27,3 +29,15 @@ pub record GoesOn (h : Head) (c : Counters) (edges pending horizons safe : List 
   pub gives : (B : List ℕ) → Fronts (edgesOf (h .edges) edges) (suc (value (h .horizon))) safe → Idle (view h edges pending horizons B) (value (h .horizon)) (h .budget)
       → out (answerOf (eventsOf (r .head .batch) B) (r .answer)) (view (r .head) edges′ pending horizons′ B) (countersOf (r .counters)) ≡ stepRun (view h edges pending horizons B) (countersOf c) (value (h .horizon)) (h .budget)
   pub moves : (es : List Event) → unmoved (answerOf es (r .answer)) ≡ false
+
+-- The run is closed by 24, or because it is complete.
+abbrev pub spentOf : Head → Counters → After
+spentOf h c = record { answer = P.EventBudgetExceeded (h .budget); head = closedHead h; counters = c }
+
+abbrev pub finishedOf : Head → Counters → After
+finishedOf h c = record { answer = P.Finished (h .gvt); head = closedHead h; counters = c }
+
+-- Something rose, k edge bounds among it.
+pub record Rises (h : Head) (c : Counters) (k : ℕ) (r : After) : Type 0 where
+  pub after : r ≡ record { answer = P.Advanced (h .gvt); head = h; counters = r .counters }
+  pub counted : countersOf (r .counters) ≡ countAdvance (countersOf c) k

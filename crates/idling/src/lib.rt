@@ -10,7 +10,7 @@ ghost use lib.ListN.{length};
 ghost use Rattle.rules.specs.Step.{countAdvance};
 ghost use Rattle.state.specs.View.{countersOf};
 ghost use Rattle.advancing.specs.Advances.{Advanceable};
-ghost use Rattle.idling.specs.Idles.{GoesOn};
+ghost use Rattle.idling.specs.Idles.{spentOf, Rises, finishedOf, GoesOn};
 
 // "If anything rose, rounds + 1"; "each bound raised is one null message".
 fn count_advance(counters: Counters, raised: usize) -> Counters
@@ -22,8 +22,47 @@ fn count_advance(counters: Counters, raised: usize) -> Counters
     c
 }
 
-// Nothing was taken: 24, or an advance. Where nothing rises, the run is complete: the branch of the
-// rules where it is not is never reached (rules/proofs/Unstuck).
+// Row 24: "run closed, otherwise as reached".
+fn spent(head: Head, counters: Counters) -> After
+    ensures { λ r. ⌜ r ≡ spentOf head counters ⌝ }
+{
+    let mut h = head;
+    h.running = false;
+    After {
+        answer: Answer::EventBudgetExceeded(head.budget),
+        head: h,
+        counters: counters,
+    }
+}
+
+// "If something rose, answer Advanced."
+fn advanced(head: Head, counters: Counters, raised: usize) -> After
+    ensures { λ r. ⌜ Rises head counters raised r ⌝ }
+{
+    let gvt = head.gvt;
+    After {
+        answer: Answer::Advanced(gvt),
+        head: head,
+        counters: count_advance(counters, raised),
+    }
+}
+
+// "If nothing rose, .. answer Finished and close the run": the branch of the rules where the run is
+// not complete is never reached (rules/proofs/Unstuck).
+fn finished(head: Head, counters: Counters) -> After
+    ensures { λ r. ⌜ r ≡ finishedOf head counters ⌝ }
+{
+    let mut closed = head;
+    closed.running = false;
+    let gvt = closed.gvt;
+    After {
+        answer: Answer::Finished(gvt),
+        head: closed,
+        counters: counters,
+    }
+}
+
+// Nothing was taken: 24, or an advance.
 pub fn go_on(
     head: Head,
     counters: Counters,
@@ -41,28 +80,12 @@ pub fn go_on(
     let mut first = [0u64; 128];
     frontiers::first_ticks(pending, count, top, &mut first);
     if advancing::is_spent(head, safe, &first) {
-        let mut h = head;
-        h.running = false;
-        return After {
-            answer: Answer::EventBudgetExceeded(head.budget),
-            head: h,
-            counters: counters,
-        };
+        return spent(head, counters);
     }
-    let advanced = advancing::advance(head, edges, horizons, safe, &first);
-    let mut h = advanced.head;
-    let gvt = h.gvt;
-    if advanced.rose {
-        return After {
-            answer: Answer::Advanced(gvt),
-            head: h,
-            counters: count_advance(counters, advanced.raised),
-        };
+    let risen = advancing::advance(head, edges, horizons, safe, &first);
+    let h = risen.head;
+    if risen.rose {
+        return advanced(h, counters, risen.raised);
     }
-    h.running = false;
-    After {
-        answer: Answer::Finished(gvt),
-        head: h,
-        counters: counters,
-    }
+    finished(h, counters)
 }

@@ -6,6 +6,8 @@ use Prim.Native.Nat.{ℕ, _+_, _-_, _≤_, _<_}
 use native.Mathlib.Omega.{arith}
 use lib.Dec.{ltb}
 use lib.ListN.{length}
+use types.Run.{OneOf}
+use denote.Enum.Declared.{tagOf}
 use borrow.Author.Tests.{lt-ltb, le-ltb}
 use Rattle.types.specs.Value.{value}
 use Rattle.words.specs.Words.{tab}
@@ -17,6 +19,7 @@ use Rattle.rules.specs.State.{State, Stored, stored, raise, most, most-pending,
 use Rattle.rules.specs.Answers as A
 use Rattle.rules.specs.Rows.{unless}
 use Rattle.rules.specs.Pending.{queue}
+use Rattle.rules.specs.History as H
 use Rattle.rules.specs.HandBack.{Emission, messages, isRemote, countRound, handled, commit, commitAt, lose}
 use Rattle.rules.proofs.Lists.{All}
 use Rattle.rules.proofs.Shape as Shape
@@ -28,14 +31,17 @@ use Rattle.queueing.specs.Queued.{Queueable, Queued}
 use Rattle.state.specs.declared.Head.{Head}
 use Rattle.state.specs.declared.Counters.{Counters}
 use Rattle.state.specs.declared.After.{After}
+use Rattle.state.specs.declared.Answer.{Answer}
 use Rattle.state.specs.declared.Answer.the-variants as P
 use Rattle.state.specs.View.{view, countersOf}
 use Rattle.state.specs.Heads.{handledHead}
 use Rattle.state.specs.Lent.{Lent}
 use Rattle.state.proofs.Facts.{few-processes, few-edges, few-pending, in-order, newest, is-stored, stored-is, below-top, batch-runs}
+use Rattle.state.proofs.Answer.{the-type}
 use Rattle.state.proofs.Moves.{overflow-moves, full-moves}
+use Rattle.state.proofs.Deciding.{others, passes, refuses, decided}
 use Rattle.concluding.specs.Concludes.{Counts, Loses, concluded, Concludable, Concludes}
-use Rattle.settling.specs.Settles.{QueuesRound, Settleable, settled, Settles}
+use Rattle.settling.specs.Settles.{QueuesRound, Settleable, settled, Settles, Tries}
 
 -- The round is queued: its events, and the head.
 module _ (h : Head) (Q B Q′ B′ : List ℕ) (xs : List Emission) (k u : ℕ) (n : length xs ≡ k) (q : eventsOf (h .pending + k) Q′ ≡ queue (eventsOf (h .pending) Q) (h .next) (messages xs)) (eu : u ≡ raise (h .used) (h .batch)) where
@@ -141,3 +147,20 @@ module _ (h : Head) (c : Counters) (E Q Z B : List ℕ) (xs : List Emission) (k 
                   ∙ commits (view h E Q Z B) (countersOf c) xs (value (h .horizon)) (h .budget));
               moves = cn .moves;
             }
+
+-- 19 and 18, from the program's tests.
+module _ (h : Head) (k : ℕ) where
+  pub tries-late : 18446744073709551615 - h .next < k → Tries h k P.EventSequenceOverflow
+  unfolding H.refused
+  tries-late l = refuses _ refl (λ c E Q Z B xs n m hand r B′ d. settle-late h c E Q Z B xs k n m hand r B′ l d)
+
+  module _ (o : h .next ≤ 18446744073709551615) (a : k ≤ 18446744073709551615 - h .next) where
+    pub tries-full : 512 - h .pending < k → Tries h k P.QueueFull
+    unfolding H.refused
+    tries-full l = refuses _ refl (λ c E Q Z B xs n m hand r B′ d. settle-full h c E Q Z B xs k n m hand a o r B′ l d)
+
+    pub tries-roomy : k ≤ 512 - h .pending → Tries h k P.Accepted
+    tries-roomy b = passes (record { next = o; numbers = a; places = b })
+
+pub settle-lost : (h : Head) (c : Counters) (E Q Z B : List ℕ) (xs : List Emission) (k : ℕ) (a : Answer) → Tries h k a → OneOf others (tagOf the-type a) → length xs ≡ k → Lent h E Q Z B → 0 < h .batch → (r : After) (B′ : List ℕ) → Loses a h c r → Settles h c E Q Z B xs r Q Z B′
+settle-lost h c E Q Z B xs k a d w n m hand r B′ l = decided a d w c E Q Z B xs n m hand r B′ l

@@ -5,7 +5,7 @@ use state::Counters;
 use state::Head;
 ghost use Prim.Native.Nat.{_*_, _≤_};
 ghost use lib.ListN.{length};
-ghost use Rattle.settling.specs.Settles.{QueuesRound, Settleable, Settles};
+ghost use Rattle.settling.specs.Settles.{Tries, QueuesRound, Settleable, Settles};
 ghost use Rattle.replies.specs.Emissions.{emissionsOf};
 ghost use Rattle.queueing.specs.Queued.{Queueable};
 
@@ -37,7 +37,21 @@ fn queue_round(
     h
 }
 
-// Rows 19 and 18; then the round is queued and counted.
+// Rows 19 and 18.
+fn refusal(head: Head, emitted: usize) -> Answer
+    requires { ⌜ head .pending ≤ 512 ⌝ }
+    ensures { λ r. ⌜ Tries head emitted r ⌝ }
+{
+    if MOST - head.next < emitted as u64 {
+        return Answer::EventSequenceOverflow;
+    }
+    if MOST_PENDING - head.pending < emitted {
+        return Answer::QueueFull;
+    }
+    Answer::Accepted
+}
+
+// The rows; then the round is queued and counted, or lost.
 pub fn settle<'a>(
     head: Head,
     counters: Counters,
@@ -51,14 +65,12 @@ pub fn settle<'a>(
     requires { ⌜ Settleable head (now edges) (now pending) (now horizons) (now batch) (now reply) emitted ⌝ }
     ensures { λ r. ⌜ Settles head counters (now (edges .entry)) (now (pending .entry)) (now (horizons .entry)) (now (batch .entry)) (emissionsOf emitted (now (reply .entry))) r (now (pending .exit)) (now (horizons .exit)) (now (batch .exit)) ⌝ }
 {
-    if MOST - head.next < emitted as u64 {
-        return concluding::lose(Answer::EventSequenceOverflow, head, counters, batch);
+    let answer = refusal(head, emitted);
+    if let Answer::Accepted = answer {
+        let remote = queueing::count_remote(reply, emitted);
+        let c = concluding::count_round(counters, head.batch as u64, emitted as u64, remote);
+        let h = queue_round(head, pending, batch, reply, emitted);
+        return concluding::conclude(h, c, edges, pending, horizons);
     }
-    if MOST_PENDING - head.pending < emitted {
-        return concluding::lose(Answer::QueueFull, head, counters, batch);
-    }
-    let remote = queueing::count_remote(reply, emitted);
-    let c = concluding::count_round(counters, head.batch as u64, emitted as u64, remote);
-    let h = queue_round(head, pending, batch, reply, emitted);
-    concluding::conclude(h, c, edges, pending, horizons)
+    concluding::lose(answer, head, counters, batch)
 }

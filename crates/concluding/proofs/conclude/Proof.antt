@@ -28,36 +28,26 @@ returns c =
     let start = tables .before .before .before .before .before .before in
     concludes-spent (start .args .head) (start .args .counters) _ _ _ _ _ _ (tables .tables .ensures) (spends .is-spent .ensures) (c .if1 .taken)
 
-slice-aggregate-aims : tie.Need-slice-aggregate-aims
-slice-aggregate-aims c = search needs
+slice-aggregate-refreshed : tie.Need-slice-aggregate-refreshed
+slice-aggregate-refreshed c = search needs
 
-slice-aggregate-aims-2 : tie.Need-slice-aggregate-aims-2
-slice-aggregate-aims-2 c = search needs
+slice-aggregate-refreshed-2 : tie.Need-slice-aggregate-refreshed-2
+slice-aggregate-refreshed-2 c = search needs
 
-aims-requires : tie.Need-aims-requires
-aims-requires c κs = search needs
-
-slice-aggregate-refresh : tie.Need-slice-aggregate-refresh
-slice-aggregate-refresh c = search needs
-
-slice-aggregate-refresh-2 : tie.Need-slice-aggregate-refresh-2
-slice-aggregate-refresh-2 c = search needs
-
-refresh-requires : tie.Need-refresh-requires
-refresh-requires c κs = search needs
+refreshed-requires : tie.Need-refreshed-requires
+refreshed-requires c κs = search needs
 
 same-length : tie.Need-same-length
 same-length c = search needs
 
 returns-2 : tie.Need-returns-2
 returns-2 c =
-    let refresh = c .before .before .before .before in
-    let aims = refresh .before .before .before .before .before in
-    let fresh = aims .before .before .before in
-    let spends = fresh .before in
+    let fresh = c .before .before .before .before in
+    let unspent = fresh .before .before .before .before in
+    let spends = unspent .before in
     let tables = spends .before .before .before .before .before in
     let start = tables .before .before .before .before .before .before in
-    concludes-committed (start .args .head) (start .args .counters) _ _ _ _ _ _ (tables .tables .ensures) (spends .is-spent .ensures) (fresh .if1 .left) _ _ (refresh .refresh .result) (aims .aims .ensures) (refresh .refresh .ensures)
+    concludes-committed (start .args .head) (start .args .counters) _ _ _ _ _ _ (tables .tables .ensures) (spends .is-spent .ensures) (unspent .if1 .left) _ (fresh .refreshed .result) (fresh .refreshed .ensures)
 
 pub conclude-spec : {M : Type 1} → statement M
 conclude-spec =
@@ -70,11 +60,8 @@ conclude-spec =
     slice-aggregate-is-spent-2
     is-spent-requires
     returns
-    slice-aggregate-aims
-    slice-aggregate-aims-2
-    aims-requires
-    slice-aggregate-refresh
-    slice-aggregate-refresh-2
-    refresh-requires
+    slice-aggregate-refreshed
+    slice-aggregate-refreshed-2
+    refreshed-requires
     same-length
     returns-2)

@@ -18,16 +18,20 @@ slice-aggregate-is-spent c = search needs
 is-spent-requires : tie.Need-is-spent-requires
 is-spent-requires c κs = search needs
 
+spent-requires : tie.Need-spent-requires
+spent-requires c κs = search needs
+
 same-length : tie.Need-same-length
 same-length c = search needs
 
 returns : tie.Need-returns
 returns c =
-    let spends = c .before in
+    let is-spent = c .before in
+    let spends = is-spent .before in
     let firsts = spends .before .before .before .before in
     let top = firsts .before .before in
     let start = top .before .before .before .before .before .before in
-    goes-spent (start .args .head) (start .args .counters) _ _ _ _ _ _ _ (top .one-more .ensures) (firsts .first-ticks .ensures) (spends .is-spent .ensures) (c .if1 .taken)
+    rw (c .spent .ensures) (goes-spent (start .args .head) (start .args .counters) _ _ _ _ _ _ _ (top .one-more .ensures) (firsts .first-ticks .ensures) (spends .is-spent .ensures) (is-spent .if1 .taken))
 
 slice-aggregate-advance : tie.Need-slice-aggregate-advance
 slice-aggregate-advance c = search needs
@@ -35,8 +39,8 @@ slice-aggregate-advance c = search needs
 advance-requires : tie.Need-advance-requires
 advance-requires c κs = search needs
 
-count-advance-requires : tie.Need-count-advance-requires
-count-advance-requires c κs = search needs
+advanced-requires : tie.Need-advanced-requires
+advanced-requires c κs = search needs
 
 same-length-2 : tie.Need-same-length-2
 same-length-2 c = search needs
@@ -50,13 +54,16 @@ same-length-4 c = search needs
 returns-2 : tie.Need-returns-2
 returns-2 c =
     let rose = c .before in
-    let advanced = rose .before .before .before .before .before .before .before .before .before in
+    let advanced = rose .before .before .before .before .before .before .before .before in
     let not-spent = advanced .before .before .before .before .before in
     let spends = not-spent .before in
     let firsts = spends .before .before .before .before in
     let top = firsts .before .before in
     let start = top .before .before .before .before .before .before in
-    goes-up (start .args .head) (start .args .counters) _ _ _ _ _ _ _ (top .one-more .ensures) (firsts .first-ticks .ensures) (spends .is-spent .ensures) (not-spent .if1 .left) _ _ (advanced .advance .result) (advanced .advance .ensures) _ (rose .if2 .taken) (c .count-advance .ensures)
+    goes-up (start .args .head) (start .args .counters) _ _ _ _ _ _ _ (top .one-more .ensures) (firsts .first-ticks .ensures) (spends .is-spent .ensures) (not-spent .if1 .left) _ _ (advanced .advance .result) (advanced .advance .ensures) _ (rose .if2 .taken) (c .advanced .ensures)
+
+finished-requires : tie.Need-finished-requires
+finished-requires c κs = search needs
 
 same-length-5 : tie.Need-same-length-5
 same-length-5 c = search needs
@@ -69,14 +76,14 @@ same-length-7 c = search needs
 
 returns-3 : tie.Need-returns-3
 returns-3 c =
-    let rose = c in
-    let advanced = rose .before .before .before .before .before .before .before .before .before in
+    let rose = c .before in
+    let advanced = rose .before .before .before .before .before .before .before .before in
     let not-spent = advanced .before .before .before .before .before in
     let spends = not-spent .before in
     let firsts = spends .before .before .before .before in
     let top = firsts .before .before in
     let start = top .before .before .before .before .before .before in
-    goes-finished (start .args .head) (start .args .counters) _ _ _ _ _ _ _ (top .one-more .ensures) (firsts .first-ticks .ensures) (spends .is-spent .ensures) (not-spent .if1 .left) _ _ (advanced .advance .result) (advanced .advance .ensures) (rose .if2 .left)
+    rw (c .finished .ensures) (goes-finished (start .args .head) (start .args .counters) _ _ _ _ _ _ _ (top .one-more .ensures) (firsts .first-ticks .ensures) (spends .is-spent .ensures) (not-spent .if1 .left) _ _ (advanced .advance .result) (advanced .advance .ensures) (rose .if2 .left))
 
 pub go-on-spec : {M : Type 1} → statement M
 go-on-spec =
@@ -87,15 +94,17 @@ go-on-spec =
     first-ticks-requires
     slice-aggregate-is-spent
     is-spent-requires
+    spent-requires
     same-length
     returns
     slice-aggregate-advance
     advance-requires
-    count-advance-requires
+    advanced-requires
     same-length-2
     same-length-3
     same-length-4
     returns-2
+    finished-requires
     same-length-5
     same-length-6
     same-length-7
