@@ -7,7 +7,6 @@ use native.Mathlib.Omega.{arith}
 use lib.ListN.{length, take, length-map}
 use Rattle.rules.specs.HandBack as R
 use Rattle.rules.specs.HandBack.{malformed}
-use Rattle.rules.specs.Foreign.{foreign}
 use Rattle.rules.specs.Calls.{HandBack}
 use Rattle.rules.proofs.Tests.{by-bool, not-both, not-true, not-false}
 use Rattle.records.specs.Records.{eventsOf}
@@ -15,14 +14,16 @@ use Rattle.replies.specs.declared.Emission.{Emission}
 use Rattle.replies.specs.Emissions.{emissionOf}
 use Rattle.replies.specs.Replies.{strangeMask, anyIllFormed}
 use Rattle.replies.proofs.Judged.{malformed-in-turn}
+use Rattle.state.specs.declared.Head.{Head}
 use Rattle.state.specs.declared.Runtime.{Runtime}
 use Rattle.state.specs.declared.Counters.{Counters}
 use Rattle.state.specs.declared.After.{After}
 use Rattle.state.specs.declared.Answer.{Answer}
 use Rattle.state.specs.declared.Answer.the-variants as P
-use Rattle.state.specs.View.{viewOf}
 use Rattle.state.specs.Lent.{Lent}
 use Rattle.state.proofs.Facts.{few-processes, few-pending, few-batch, in-order, newest}
+use Rattle.foreign.specs.Tests.{IsForeign}
+use Rattle.foreign.proofs.Grouped.{whole}
 use Rattle.sifting.specs.declared.Sifted.{Sifted}
 use Rattle.sifting.specs.declared.Desk.{Desk}
 use Rattle.sifting.specs.Desks.{routesIn, horizonsIn, batchIn, placesIn}
@@ -38,11 +39,36 @@ use Rattle.finishing.proofs.Finishing.{on-desk}
 use Rattle.runtime.specs.declared.Called.{Called}
 use Rattle.runtime.specs.Carries.{Carries}
 use Rattle.runtime.proofs.Carrying.{carries-foreign, carries-back}
-use Rattle.desk.specs.Opens.{Shut, Open, Opens, Closable, Closes}
+use Rattle.desk.specs.Opens.{Shut, Stops, Open, Opens, Closable, Closes}
 
 -- The refusals that leave the state as given, from the core's promise.
 unmoved-back : (s : Runtime) (c : Counters) (mask : ℕ) (xs : List R.Emission) (a : Answer) → HandsBack (s .head) c (s .edges) (s .pending) (s .horizons) (s .batch) mask xs (record { answer = a; head = s .head; counters = c }) (s .pending) (s .horizons) (s .batch) → Carries (HandBack mask xs) s c a s c
 unmoved-back s c mask xs a h = carries-back s c (record { answer = a; head = s .head; counters = c }) (s .pending) (s .horizons) (s .batch) mask xs h
+
+-- 11, 12 and 25.
+module _ (h : Head) (E Q Z B : List ℕ) (e : length E ≡ 2048) (q : length Q ≡ 4096) (z : length Z ≡ 128) (b : length B ≡ 512) (x : Bool) (i : IsForeign h E Q B x) where
+  abbrev given : Runtime
+  given = record { edges = E; pending = Q; horizons = Z; batch = B; head = h }
+
+  stopped : (a : Answer) → (a ≡ P.Accepted → ⊥) → ((mask : ℕ) (xs : List R.Emission) (c : Counters) → Carries (HandBack mask xs) given c a given c) → Stops h E Q Z B a
+  stopped a n k = record { passes = λ y. absurd (n y); healthy = λ y. absurd (n y); in-hand = λ y. absurd (n y); refused = λ _. k }
+
+  pub stopped-11 : x ≡ true → Stops h E Q Z B P.ForeignState
+  stopped-11 t = stopped _ (λ y. let w : _≡_ {A = ℕ} 0 1 = cc in omega arith) (λ mask xs c. carries-foreign given c (sym (whole given x i) ∙ t) (HandBack mask xs))
+
+  module _ (f : x ≡ false) where
+    lent : Lent h E Q Z B
+    lent = record { edge-words = e; pending-words = q; horizon-words = z; batch-words = b; passes = sym (whole given x i) ∙ f }
+
+    pub stopped-12 : h .poisoned ≡ true → Stops h E Q Z B P.Poisoned
+    stopped-12 p = stopped _ (λ y. let w : _≡_ {A = ℕ} 0 1 = cc in omega arith) (λ mask xs c. unmoved-back given c mask xs P.Poisoned (back-dead h c E Q Z B mask xs lent p))
+
+    module _ (p : h .poisoned ≡ false) where
+      pub stopped-25 : h .batch ≡ 0 → Stops h E Q Z B P.NoBatch
+      stopped-25 n = stopped _ (λ y. let w : _≡_ {A = ℕ} 0 1 = cc in omega arith) (λ mask xs c. unmoved-back given c mask xs P.NoBatch (back-empty h c E Q Z B mask xs lent p n))
+
+      pub stopped-none : (h .batch ≡ 0 → ⊥) → Stops h E Q Z B P.Accepted
+      stopped-none n = record { passes = λ _. lent; healthy = λ _. p; in-hand = λ _. n; refused = λ m. absurd (m refl) }
 
 -- Opening.
 module _ (s : Runtime) (mask : ℕ) where
@@ -58,29 +84,21 @@ module _ (s : Runtime) (mask : ℕ) where
         laid = λ x. not-both x g;
       }
 
-  pub open-foreign : (x : Bool) → x ≡ foreign (viewOf s) → x ≡ true → (d : Desk) → Shut (s .head) mask P.ForeignState d → Opens s mask d
-  open-foreign x i t d h = closed-desk d P.ForeignState h (λ xs c. carries-foreign s c (sym i ∙ t) (HandBack mask xs))
+  pub open-shut : (a : Answer) → Stops (s .head) (s .edges) (s .pending) (s .horizons) (s .batch) a → (a ≡ P.Accepted → ⊥) → (d : Desk) → Shut (s .head) mask a d → Opens s mask d
+  open-shut a t n d h = closed-desk d a h (λ xs c. t .refused n mask xs c)
 
-  module _ (l : Lent (s .head) (s .edges) (s .pending) (s .horizons) (s .batch)) where
-    pub open-dead : s .head .poisoned ≡ true → (d : Desk) → Shut (s .head) mask P.Poisoned d → Opens s mask d
-    open-dead p d h = closed-desk d P.Poisoned h (λ xs c. unmoved-back s c mask xs P.Poisoned (back-dead (s .head) c (s .edges) (s .pending) (s .horizons) (s .batch) mask xs l p))
+  module _ (l : Lent (s .head) (s .edges) (s .pending) (s .horizons) (s .batch)) (p : s .head .poisoned ≡ false) (n : s .head .batch ≡ 0 → ⊥) where
+    strange : strangeMask (eventsOf (s .head .batch) (s .batch)) mask ≡ true → (xs : List R.Emission) (c : Counters) → Carries (HandBack mask xs) s c P.MalformedReply s c
+    strange t xs c = unmoved-back s c mask xs P.MalformedReply (back-malformed (s .head) c (s .edges) (s .pending) (s .horizons) (s .batch) mask xs l p n (malformed-in-turn _ mask xs ∙ rw t))
 
-    module _ (p : s .head .poisoned ≡ false) where
-      pub open-empty : s .head .batch ≡ 0 → (d : Desk) → Shut (s .head) mask P.NoBatch d → Opens s mask d
-      open-empty e d h = closed-desk d P.NoBatch h (λ xs c. unmoved-back s c mask xs P.NoBatch (back-empty (s .head) c (s .edges) (s .pending) (s .horizons) (s .batch) mask xs l p e))
-
-      module _ (n : s .head .batch ≡ 0 → ⊥) where
-        strange : strangeMask (eventsOf (s .head .batch) (s .batch)) mask ≡ true → (xs : List R.Emission) (c : Counters) → Carries (HandBack mask xs) s c P.MalformedReply s c
-        strange t xs c = unmoved-back s c mask xs P.MalformedReply (back-malformed (s .head) c (s .edges) (s .pending) (s .horizons) (s .batch) mask xs l p n (malformed-in-turn _ mask xs ∙ rw t))
-
-        pub open-laid : (a : Sifted) (W : List ℕ) → length W ≡ 4864 → Lays (s .head) (s .edges) (s .pending) (s .horizons) (s .batch) mask a W → Opens s mask (record { words = W; sifted = a })
-        open-laid a W w h = record {
-          long = w;
-          shut = λ g. h .refused g .0 ∙ ap (refusing (s .head) mask) (sym (ap (λ (x : Sifted). x .verdict .answer) (h .refused g .0)));
-          refused = λ g xs c. let f : a .verdict .answer ≡ P.MalformedReply = ap (λ (x : Sifted). x .verdict .answer) (h .refused g .0) in rw f (strange (h .refused g .1) xs c);
-          opened = λ _. record { lent = l; healthy = p; in-hand = omega arith };
-          laid = h .laid;
-        }
+    pub open-laid : (a : Sifted) (W : List ℕ) → length W ≡ 4864 → Lays (s .head) (s .edges) (s .pending) (s .horizons) (s .batch) mask a W → Opens s mask (record { words = W; sifted = a })
+    open-laid a W w h = record {
+      long = w;
+      shut = λ g. h .refused g .0 ∙ ap (refusing (s .head) mask) (sym (ap (λ (x : Sifted). x .verdict .answer) (h .refused g .0)));
+      refused = λ g xs c. let f : a .verdict .answer ≡ P.MalformedReply = ap (λ (x : Sifted). x .verdict .answer) (h .refused g .0) in rw f (strange (h .refused g .1) xs c);
+      opened = λ _. record { lent = l; healthy = p; in-hand = omega arith };
+      laid = h .laid;
+    }
 
 -- An open desk.
 module _ (s : Runtime) (mask : ℕ) (d : Desk) (o : Opens s mask d) where

@@ -11,6 +11,7 @@ use Rattle.state.specs.declared.Head.{Head}
 use Rattle.state.specs.declared.Runtime.{Runtime}
 use Rattle.state.specs.declared.Counters.{Counters}
 use Rattle.state.specs.declared.Answer.{Answer}
+use Rattle.state.specs.declared.Answer.the-variants as P
 use Rattle.state.specs.Lent.{Lent}
 use Rattle.sifting.specs.declared.Desk.{Desk}
 use Rattle.sifting.specs.Desks.{routesIn, placesIn}
@@ -23,6 +24,13 @@ use Rattle.runtime.specs.Carries.{Carries}
 pub record Shut (h : Head) (mask : ℕ) (a : Answer) (d : Desk) : Type 0 where
   pub long : length (d .words) ≡ 4864
   pub sifted : d .sifted ≡ refusing h mask a
+
+-- 11, 12 and 25: none of them refuses, or hand back answers a and leaves all as given.
+pub record Stops (h : Head) (edges pending horizons batch : List ℕ) (a : Answer) : Type 0 where
+  pub passes : a ≡ P.Accepted → Lent h edges pending horizons batch
+  pub healthy : a ≡ P.Accepted → h .poisoned ≡ false
+  pub in-hand : a ≡ P.Accepted → h .batch ≡ 0 → ⊥
+  pub refused : (a ≡ P.Accepted → ⊥) → (mask : ℕ) (xs : List R.Emission) (c : Counters) → let s : Runtime = record { edges = edges; pending = pending; horizons = horizons; batch = batch; head = h } in Carries (HandBack mask xs) s c a s c
 
 -- The state that a reply is taken for: 11, 12 and 25 let it pass.
 pub record Open (s : Runtime) : Type 0 where

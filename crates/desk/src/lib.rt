@@ -1,5 +1,6 @@
 // Hand back in three parts, for a host whose reply is no flat words: a desk is opened, each emission
 // is sifted on it, and it is closed.
+use finishing::is_accepted;
 use foreign::is_foreign;
 use runtime::Called;
 use sifting::Desk;
@@ -7,8 +8,9 @@ use state::Answer;
 use state::Counters;
 use state::Head;
 use state::Runtime;
-ghost use Rattle.state.specs.Lent.{Lent};
-ghost use Rattle.desk.specs.Opens.{Shut, Opens, Closable, Closes};
+ghost use mathlib.Core.Path.{_≡_};
+ghost use lib.ListN.{length};
+ghost use Rattle.desk.specs.Opens.{Shut, Stops, Opens, Closable, Closes};
 
 // 11, 12 and 25: no emission is looked at.
 fn shut(head: Head, mask: u64, answer: Answer) -> Desk
@@ -20,17 +22,42 @@ fn shut(head: Head, mask: u64, answer: Answer) -> Desk
     }
 }
 
-// Where 11 let the state pass.
-fn open_passed(state: Runtime, mask: u64) -> Desk
-    requires { ⌜ Lent (state .head) (state .edges) (state .pending) (state .horizons) (state .batch) ⌝ }
+// 11, 12 and 25; Accepted where none refuses.
+fn refusal<'a>(
+    head: Head,
+    edges: &'a [u64],
+    pending: &'a [u64],
+    horizons: &'a [u64],
+    batch: &'a [u64],
+) -> Answer
+    requires { ⌜ (length (now edges) ≡ 2048) × (length (now pending) ≡ 4096) × (length (now horizons) ≡ 128) × (length (now batch) ≡ 512) ⌝ }
+    ensures { λ r. ⌜ Stops head (now (edges .entry)) (now (pending .entry)) (now (horizons .entry)) (now (batch .entry)) r ⌝ }
+{
+    if is_foreign(head, edges, pending, batch) {
+        return Answer::ForeignState;
+    }
+    if head.poisoned {
+        return Answer::Poisoned;
+    }
+    if head.batch == 0 {
+        return Answer::NoBatch;
+    }
+    Answer::Accepted
+}
+
+pub fn open(state: Runtime, mask: u64) -> Desk
     ensures { λ r. ⌜ Opens state mask r ⌝ }
 {
     let head = state.head;
-    if head.poisoned {
-        return shut(head, mask, Answer::Poisoned);
-    }
-    if head.batch == 0 {
-        return shut(head, mask, Answer::NoBatch);
+    let answer = refusal(
+        head,
+        &state.edges,
+        &state.pending,
+        &state.horizons,
+        &state.batch,
+    );
+    if !is_accepted(answer) {
+        return shut(head, mask, answer);
     }
     let mut words = [0u64; 4864];
     let sifted = laying::lay(
@@ -46,16 +73,6 @@ fn open_passed(state: Runtime, mask: u64) -> Desk
         words: words,
         sifted: sifted,
     }
-}
-
-pub fn open(state: Runtime, mask: u64) -> Desk
-    ensures { λ r. ⌜ Opens state mask r ⌝ }
-{
-    let head = state.head;
-    if is_foreign(head, &state.edges, &state.pending, &state.batch) {
-        return shut(head, mask, Answer::ForeignState);
-    }
-    open_passed(state, mask)
 }
 
 // After `emitted` emissions. What stopped the reply before any was judged leaves the state as given.

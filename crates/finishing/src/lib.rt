@@ -34,7 +34,7 @@ fn refusal(failed: u64, next: u64, pending: usize, emitted: usize) -> Answer
     Answer::Accepted
 }
 
-fn is_accepted(answer: Answer) -> bool
+pub fn is_accepted(answer: Answer) -> bool
     ensures { λ r. ⌜ Accepts answer r ⌝ }
 {
     if let Answer::Accepted = answer {
