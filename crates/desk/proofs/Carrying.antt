@@ -39,7 +39,7 @@ use Rattle.finishing.proofs.Finishing.{on-desk}
 use Rattle.runtime.specs.declared.Called.{Called}
 use Rattle.runtime.specs.Carries.{Carries}
 use Rattle.runtime.proofs.Carrying.{carries-foreign, carries-back}
-use Rattle.desk.specs.Opens.{Shut, Stops, Open, Opens, Closable, Closes}
+use Rattle.desk.specs.Opens.{Shut, Stops, Open, Opens, givenBack, Closable, Closes}
 
 -- The refusals that leave the state as given, from the core's promise.
 unmoved-back : (s : Runtime) (c : Counters) (mask : ℕ) (xs : List R.Emission) (a : Answer) → HandsBack (s .head) c (s .edges) (s .pending) (s .horizons) (s .batch) mask xs (record { answer = a; head = s .head; counters = c }) (s .pending) (s .horizons) (s .batch) → Carries (HandBack mask xs) s c a s c
@@ -216,9 +216,10 @@ carries s c mask d ys t r o k z = z mask d ys o k refl
 
 -- Closing.
 module _ (s : Runtime) (c : Counters) (t : Desk) (k : ℕ) where
-  pub close-as-given : t .sifted .going ≡ false → Closes s c t k (record { answer = t .sifted .verdict .answer; state = s; counters = c })
+  pub close-as-given : t .sifted .going ≡ false → (r : Called) → r ≡ givenBack s c (t .sifted) → Closes s c t k r
   unfolding Closes
-  close-as-given n mask d ys o w e = closed-as-given s mask d o ys t w c n
+  close-as-given n r g mask d ys o w e =
+      subst (λ (x : Called). Carries (HandBack mask (replyOf ys)) s c (x .answer) (x .state) (x .counters)) (sym g) (closed-as-given s mask d o ys t w c n)
 
   pub can-finish : Closable s t → t .sifted .going ≡ true → Open s
   unfolding Closable

@@ -13,6 +13,7 @@ use Rattle.state.specs.declared.Counters.{Counters}
 use Rattle.state.specs.declared.Answer.{Answer}
 use Rattle.state.specs.declared.Answer.the-variants as P
 use Rattle.state.specs.Lent.{Lent}
+use Rattle.sifting.specs.declared.Sifted.{Sifted}
 use Rattle.sifting.specs.declared.Desk.{Desk}
 use Rattle.sifting.specs.Desks.{routesIn, placesIn}
 use Rattle.sifting.specs.Taken.{replyOf, Taken}
@@ -45,6 +46,10 @@ pub record Opens (s : Runtime) (mask : ℕ) (d : Desk) : Type 0 where
   pub refused : d .sifted .going ≡ false → (xs : List R.Emission) (c : Counters) → Carries (HandBack mask xs) s c (d .sifted .verdict .answer) s c
   pub opened : d .sifted .going ≡ true → Open s
   pub laid : d .sifted .going ≡ true → Laid (s .head) (s .edges) (s .pending) (s .horizons) (s .batch) mask (routesIn (d .words)) (placesIn (d .words)) (d .words) (d .sifted)
+
+-- The answer that the desk has, with state and counters as given.
+abbrev pub givenBack : Runtime → Counters → Sifted → Called
+givenBack s c a = record { answer = a .verdict .answer; state = s; counters = c }
 
 -- What closing asks.
 unfoldable pub Closable : Runtime → Desk → Type 0

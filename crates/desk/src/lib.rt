@@ -4,13 +4,14 @@ use finishing::is_accepted;
 use foreign::is_foreign;
 use runtime::Called;
 use sifting::Desk;
+use sifting::Sifted;
 use state::Answer;
 use state::Counters;
 use state::Head;
 use state::Runtime;
 ghost use mathlib.Core.Path.{_≡_};
 ghost use lib.ListN.{length};
-ghost use Rattle.desk.specs.Opens.{Shut, Stops, Opens, Closable, Closes};
+ghost use Rattle.desk.specs.Opens.{Shut, Stops, Opens, givenBack, Closable, Closes};
 
 // 11, 12 and 25: no emission is looked at.
 fn shut(head: Head, mask: u64, answer: Answer) -> Desk
@@ -75,6 +76,19 @@ pub fn open(state: Runtime, mask: u64) -> Desk
     }
 }
 
+// What stopped the reply before any emission was judged is answered.
+fn as_given(state: Runtime, counters: Counters, sifted: Sifted) -> Called
+    ensures { λ r. ⌜ r ≡ givenBack state counters sifted ⌝ }
+{
+    let verdict = sifted.verdict;
+    let answer = verdict.answer;
+    Called {
+        answer: answer,
+        state: state,
+        counters: counters,
+    }
+}
+
 // After `emitted` emissions. What stopped the reply before any was judged leaves the state as given.
 pub fn close(mut state: Runtime, counters: Counters, desk: Desk, emitted: usize) -> Called
     requires { ⌜ Closable state desk ⌝ }
@@ -82,13 +96,7 @@ pub fn close(mut state: Runtime, counters: Counters, desk: Desk, emitted: usize)
 {
     let sifted = desk.sifted;
     if !sifted.going {
-        let verdict = sifted.verdict;
-        let answer = verdict.answer;
-        return Called {
-            answer: answer,
-            state: state,
-            counters: counters,
-        };
+        return as_given(state, counters, sifted);
     }
     let head = state.head;
     let mut pending = state.pending;

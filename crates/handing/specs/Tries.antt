@@ -4,12 +4,11 @@ use mathlib.Core.Bool.{false}
 use mathlib.Core.List.{List}
 use Prim.Native.Nat.{ℕ, _*_, _/_, _≤_}
 use lib.ListN.{length}
-use Rattle.records.specs.Records.{edgesOf, eventsOf}
+use Rattle.records.specs.Records.{edgesOf, eventsOf, Owners}
 use Rattle.rules.specs.Base.{any}
 use Rattle.rules.specs.HandBack.{Emission, malformed, processRows}
 use Rattle.rules.specs.Foreign.{strangeEdge}
 use Rattle.replies.specs.Emissions.{emissionsOf}
-use Rattle.replies.specs.Replies.{Owners}
 use Rattle.judging.specs.declared.Verdict.{Verdict}
 use Rattle.judging.specs.Judges.{Judges}
 use Rattle.reviewing.specs.Turns.{Replied}

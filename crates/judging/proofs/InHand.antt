@@ -3,7 +3,7 @@ use mathlib.Core.List.{List}
 use Prim.Native.Nat.{ℕ, _*_, _≤_}
 use native.Mathlib.Omega.{arith}
 use lib.ListN.{length}
-use Rattle.replies.specs.Replies.{Owners}
+use Rattle.records.specs.Records.{Owners}
 use Rattle.state.specs.declared.Head.{Head}
 use Rattle.state.specs.Lent.{Lent}
 use Rattle.state.proofs.Facts.{few-batch, batch-owners}

@@ -9,10 +9,10 @@ use Rattle.words.proofs.Tab.{tab-next, tab-none, tab-whole}
 use Rattle.rules.specs.Base.{if_then_else_}
 use Rattle.rules.specs.HandBack.{failed}
 use Rattle.rules.proofs.Tests.{not-both}
-use Rattle.records.specs.Records.{eventAt, edgesOf, eventsOf}
+use Rattle.records.specs.Records.{eventAt, edgesOf, eventsOf, Owners}
 use Rattle.records.proofs.Stored.{event-to}
 use Rattle.edges.specs.Routes.{Routes}
-use Rattle.replies.specs.Replies.{Owners, Places, strangeMask, StrangeMask}
+use Rattle.replies.specs.Replies.{Places, strangeMask, StrangeMask}
 use Rattle.state.specs.declared.Head.{Head}
 use Rattle.state.specs.declared.Answer.the-variants as P
 use Rattle.state.specs.Lent.{Lent}

@@ -1,6 +1,6 @@
 -- What flat words say: events of eight words and edges of four, as the rules' records. Reading past the end gives zeros.
 use mathlib.Core.List.{List, [], _∷_, _++_}
-use Prim.Native.Nat.{ℕ, _+_, _-_, _*_, _^_, _/_, _%_}
+use Prim.Native.Nat.{ℕ, _+_, _-_, _*_, _^_, _/_, _%_, _<_}
 use lib.Dec.{ltb}
 use lib.ListN.{getD, take, drop}
 use Rattle.types.specs.Value.{halves}
@@ -59,6 +59,10 @@ eventAt w i = eventOf (recordIn w (8 * i))
 
 abbrev pub eventsOf : ℕ → List ℕ → List Event
 eventsOf n w = tab (eventAt w) 0 n
+
+-- Each of the first n events is of a process that has a place in a table of 64.
+unfoldable pub Owners : ℕ → List ℕ → Type 0
+Owners n w = (i : ℕ) → i < n → eventAt w i .destination < 64
 
 -- Edge i, four words: source, destination, bound; and the first n edges.
 unfoldable pub edgeAt : List ℕ → ℕ → Edge

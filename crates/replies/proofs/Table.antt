@@ -18,9 +18,9 @@ use Rattle.rules.specs.State.{Event}
 use Rattle.rules.specs.Pending.{firstOf}
 use Rattle.rules.specs.HandBack.{inBatch}
 use Rattle.rules.proofs.Tests.{by-test}
-use Rattle.records.specs.Records.{eventAt, eventsOf}
+use Rattle.records.specs.Records.{eventAt, eventsOf, Owners}
 use Rattle.records.proofs.Stored.{event-to}
-use Rattle.replies.specs.Replies.{Owners, placeFrom, Places}
+use Rattle.replies.specs.Replies.{placeFrom, Places}
 
 -- A process has place 0 where it is not in the batch.
 place-none : (i : ℕ) (q : List Event) (p : ℕ) → not (inBatch q p) ≡ eqb (placeFrom i q p) 0

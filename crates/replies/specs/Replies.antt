@@ -2,17 +2,12 @@
 use mathlib.Core.Path.{_≡_}
 use mathlib.Core.Bool.{Bool, false, not, _&&_, _||_}
 use mathlib.Core.List.{List, [], _∷_}
-use Prim.Native.Nat.{ℕ, suc, _<_}
+use Prim.Native.Nat.{ℕ, suc}
 use lib.Dec.{ltb, eqb}
 use lib.ListN.{length, getD}
 use Rattle.rules.specs.Base.{if_then_else_, upTo, any, anyOf}
 use Rattle.rules.specs.State.{Event, most-processes, most-payload}
 use Rattle.rules.specs.HandBack.{Emission, failed, inBatch, malformed}
-use Rattle.records.specs.Records.{eventAt}
-
--- Every event's process has a place in a table.
-unfoldable pub Owners : ℕ → List ℕ → Type 0
-Owners n w = (i : ℕ) → i < n → eventAt w i .destination < 64
 
 -- The place of p's first event, counted from 1, or 0 if it has none; the first of the list has place i + 1.
 unfoldable pub placeFrom : ℕ → List Event → ℕ → ℕ

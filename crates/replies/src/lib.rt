@@ -7,9 +7,9 @@ ghost use mathlib.Core.Path.{_≡_};
 ghost use Prim.Native.Nat.{_+_, _*_, _<_, _≤_};
 ghost use lib.ListN.{length};
 ghost use Rattle.rules.specs.HandBack.{failed};
-ghost use Rattle.records.specs.Records.{eventsOf};
+ghost use Rattle.records.specs.Records.{eventsOf, Owners};
 ghost use Rattle.replies.specs.Emissions.{emissionOf, emissionIn, emissionsOf};
-ghost use Rattle.replies.specs.Replies.{Owners, Places, Strange, StrangeMask, IllFormed, Malformed};
+ghost use Rattle.replies.specs.Replies.{Places, Strange, StrangeMask, IllFormed, Malformed};
 
 // An emission's eight words.
 pub struct Emission {

@@ -14,11 +14,10 @@ use Rattle.rules.specs.Answers as A
 use Rattle.rules.specs.Rows.{Row, _⇒_}
 use Rattle.rules.specs.HandBack.{failed, processRows}
 use Rattle.records.specs.declared.Record.{Record}
-use Rattle.records.specs.Records.{recordIn, eventAt, eventOf, edgesOf, eventsOf}
+use Rattle.records.specs.Records.{recordIn, eventAt, eventOf, edgesOf, eventsOf, Owners}
 use Rattle.edges.specs.Routes.{Routes}
 use Rattle.replies.specs.declared.Emission.{Emission}
 use Rattle.replies.specs.Emissions.{emissionOf, emissionIn, emissionAt, emissionsOf}
-use Rattle.replies.specs.Replies.{Owners}
 use Rattle.state.specs.declared.Head.{Head}
 use Rattle.state.specs.declared.Answer.the-variants as P
 use Rattle.state.specs.View.{view}

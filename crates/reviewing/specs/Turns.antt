@@ -13,10 +13,9 @@ use Rattle.rules.specs.State.{State}
 use Rattle.rules.specs.Rows.{Row}
 use Rattle.rules.specs.Foreign.{byProcess}
 use Rattle.rules.specs.HandBack.{Emission, malformed, processRows}
-use Rattle.records.specs.Records.{edgesOf, eventsOf}
+use Rattle.records.specs.Records.{edgesOf, eventsOf, Owners}
 use Rattle.edges.specs.Routes.{Routes}
 use Rattle.replies.specs.Emissions.{emissionAt, emissionsOf}
-use Rattle.replies.specs.Replies.{Owners}
 use Rattle.state.specs.declared.Head.{Head}
 use Rattle.state.specs.declared.Answer.the-variants as P
 use Rattle.state.specs.View.{view}

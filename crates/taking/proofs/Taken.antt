@@ -14,10 +14,10 @@ use Rattle.rules.proofs.Tests.{by-test}
 use Rattle.rules.proofs.Lists.{All, all-map}
 use Rattle.rules.proofs.Order.{Pairs, test-before, rising-pairs}
 use Rattle.words.proofs.Tab.{length-tab}
-use Rattle.records.specs.Records.{eventAt, eventsOf}
+use Rattle.records.specs.Records.{eventAt, eventsOf, Owners}
 use Rattle.records.proofs.Placing.{all-at}
 use Rattle.taking.specs.Sweep.{seenBy, sweep}
-use Rattle.taking.specs.Passing.{frontAt, Owners, Took}
+use Rattle.taking.specs.Passing.{frontAt, Took}
 use Rattle.taking.specs.declared.Sieve.{Sieve}
 use Rattle.taking.proofs.Sweep.{Sorted, sweep-is, sweep-cong}
 

@@ -16,10 +16,10 @@ use Rattle.rules.proofs.Tests.{not-both}
 use Rattle.words.specs.Words.{tab, tickAt}
 use Rattle.words.proofs.Tab.{tab-cong, tab-push, tab-next}
 use Rattle.records.specs.declared.Record.{Record}
-use Rattle.records.specs.Records.{eventOf, recordIn, putRecord, eventAt, eventsOf}
+use Rattle.records.specs.Records.{eventOf, recordIn, putRecord, eventAt, eventsOf, Owners}
 use Rattle.records.proofs.Stored.{event-to, event-tick, event-same, event-other, word-past, record-back}
 use Rattle.taking.specs.Sweep.{takes, seenBy, sweep}
-use Rattle.taking.specs.Passing.{frontAt, Owners, SameFrom, Siftable, Sifted, Took}
+use Rattle.taking.specs.Passing.{frontAt, SameFrom, Siftable, Sifted, Took}
 use Rattle.taking.specs.declared.Sieve.{Sieve}
 use Rattle.taking.proofs.Sweep.{sweep-take, sweep-keep, takes-means}
 

@@ -14,10 +14,6 @@ use Rattle.taking.specs.declared.Sieve.{Sieve}
 abbrev pub frontAt : List ℕ → ℕ → ℕ
 frontAt safe p = tickAt safe (2 * p)
 
--- Every event's process has a place in a table.
-unfoldable pub Owners : ℕ → List ℕ → Type 0
-Owners n w = (i : ℕ) → i < n → eventAt w i .destination < 64
-
 -- Words u are those of w from word k on.
 unfoldable pub SameFrom : ℕ → List ℕ → List ℕ → Type 0
 SameFrom k u w = (j : ℕ) → k ≤ j → getD u j 0 ≡ getD w j 0

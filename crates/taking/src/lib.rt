@@ -9,8 +9,8 @@ ghost use Prim.Native.Nat.{_+_, _*_, _<_, _≤_};
 ghost use lib.Dec.{ltb};
 ghost use lib.ListN.{length};
 ghost use Rattle.types.specs.Value.{value};
-ghost use Rattle.records.specs.Records.{recordIn, putRecord};
-ghost use Rattle.taking.specs.Passing.{frontAt, Owners, Siftable, Sifted, Took};
+ghost use Rattle.records.specs.Records.{recordIn, putRecord, Owners};
+ghost use Rattle.taking.specs.Passing.{frontAt, Siftable, Sifted, Took};
 
 // Where the pass is: how many are kept and taken, how many more may be taken, and the first process
 // not yet seen.

@@ -4,10 +4,13 @@ use Rattle.desk.proofs.Carrying.{close-as-given, can-finish, close-roun
 use Rattle.desk.proofs.close.Statement.{statement}
 use Rattle.desk.proofs.close.Tie as tie
 
+as-given-requires : tie.Need-as-given-requires
+as-given-requires c κs = search needs
+
 returns : tie.Need-returns
 returns c =
     let start = c .before .before .before .before in
-    close-as-given _ (start .args .counters) _ _ (not-true _ (c .before .if1 .taken))
+    close-as-given _ (start .args .counters) _ _ (not-true _ (c .before .if1 .taken)) (c .as-given .result) (c .as-given .ensures)
 
 slice-aggregate-finish : tie.Need-slice-aggregate-finish
 slice-aggregate-finish c = search needs
@@ -36,6 +39,7 @@ pub close-spec : {M : Type 1} → statement M
 close-spec =
     tie.close
     (tie.spec
+    as-given-requires
     returns
     slice-aggregate-finish
     slice-aggregate-finish-2
