@@ -12,7 +12,7 @@ abbrev μ-loop : tie.MeasureT-loop
 μ-loop safe first n i₀ i = n - i
 
 loop-holds : tie.Need-loop-holds Inv-loop μ-loop
-loop-holds c = search (seeking-start, needs)
+loop-holds c = search seeking-start depth 1
 
 mul-tick-in : tie.Need-mul-tick-in Inv-loop μ-loop
 mul-tick-in c = search needs
@@ -30,7 +30,7 @@ lt-requires : tie.Need-lt-requires Inv-loop μ-loop
 lt-requires c κs = search needs
 
 returns : tie.Need-returns Inv-loop μ-loop
-returns c = search (early-found, needs)
+returns c = search early-found depth 1
 
 add-i : tie.Need-add-i Inv-loop μ-loop
 add-i c = search needs
@@ -39,10 +39,10 @@ loop-less : tie.Need-loop-less Inv-loop μ-loop
 loop-less c = search needs
 
 loop-again : tie.Need-loop-again Inv-loop μ-loop
-loop-again c = search (late-passed, needs)
+loop-again c = search late-passed depth 1
 
 returns-2 : tie.Need-returns-2 Inv-loop μ-loop
-returns-2 c = search (none-early, needs)
+returns-2 c = search none-early depth 1
 
 pub any-eligible-spec : {M : Type 1} → statement M
 any-eligible-spec =

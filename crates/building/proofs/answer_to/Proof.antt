@@ -22,16 +22,16 @@ returns : tie.Need-returns
 returns c = search needs
 
 returns-2 : tie.Need-returns-2
-returns-2 c = search (kept, needs)
+returns-2 c = search kept depth 1
 
 returns-3 : tie.Need-returns-3
-returns-3 c = search (kept, needs)
+returns-3 c = search kept depth 1
 
 returns-4 : tie.Need-returns-4
-returns-4 c = search (kept, needs)
+returns-4 c = search kept depth 1
 
 returns-5 : tie.Need-returns-5
-returns-5 c = search (kept, needs)
+returns-5 c = search kept depth 1
 
 pub answer-to-spec : {M : Type 1} → statement M
 answer-to-spec =

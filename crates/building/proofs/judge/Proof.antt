@@ -10,13 +10,13 @@ enum-told : tie.Need-enum-told
 enum-told c = search needs
 
 judge-topology-requires : tie.Need-judge-topology-requires
-judge-topology-requires c κs = search (few, needs)
+judge-topology-requires c κs = search few depth 1
 
 returns : tie.Need-returns
-returns c = search (second-part, needs)
+returns c = search second-part depth 1
 
 returns-2 : tie.Need-returns-2
-returns-2 c = search (first-part, needs)
+returns-2 c = search first-part depth 1
 
 pub judge-spec : {M : Type 1} → statement M
 judge-spec =

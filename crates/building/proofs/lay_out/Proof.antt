@@ -10,7 +10,7 @@ same-length : tie.Need-same-length
 same-length c = search needs
 
 returns : tie.Need-returns
-returns c = search (laid, needs)
+returns c = search laid depth 1
 
 pub lay-out-spec : {M : Type 1} → statement M
 lay-out-spec = tie.close (tie.spec write-edges-requires same-length returns)

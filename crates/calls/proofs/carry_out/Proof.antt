@@ -8,10 +8,10 @@ mul-tag : tie.Need-mul-tag
 mul-tag c = search (inside, needs)
 
 shared-slice-read-tag : tie.Need-shared-slice-read-tag
-shared-slice-read-tag c = search (inside, needs)
+shared-slice-read-tag c = search inside depth 1
 
 carry-set-up-requires : tie.Need-carry-set-up-requires
-carry-set-up-requires c κs = search (for-set-up, needs)
+carry-set-up-requires c κs = search for-set-up depth 1
 
 same-length : tie.Need-same-length
 same-length c = search needs
@@ -41,7 +41,7 @@ same-length-6 : tie.Need-same-length-6
 same-length-6 c = search needs
 
 returns-2 : tie.Need-returns-2
-returns-2 c = search (step-carried, needs)
+returns-2 c = search step-carried depth 1
 
 add-mask : tie.Need-add-mask
 add-mask c =
@@ -60,7 +60,7 @@ shared-slice-read-mask c =
     search (back-there _ _ (start .pre .1) (other .before .if1 .left) (other .if2 .left), needs)
 
 reply-in-requires : tie.Need-reply-in-requires
-reply-in-requires c κs = search (back-there, needs)
+reply-in-requires c κs = search back-there depth 1
 
 hand-back-requires : tie.Need-hand-back-requires
 hand-back-requires c κs = search needs

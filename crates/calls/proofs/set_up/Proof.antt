@@ -7,7 +7,7 @@ mul-if1 : tie.Need-mul-if1
 mul-if1 c = search (tag-there, needs)
 
 shared-slice-read-if1 : tie.Need-shared-slice-read-if1
-shared-slice-read-if1 c = search (tag-there, needs)
+shared-slice-read-if1 c = search tag-there depth 1
 
 add-tick-in : tie.Need-add-tick-in
 add-tick-in c =
@@ -41,7 +41,7 @@ begin-requires : tie.Need-begin-requires
 begin-requires c κs = search needs
 
 returns : tie.Need-returns
-returns c = search (begin-set-up, needs)
+returns c = search begin-set-up depth 1
 
 add-message-in : tie.Need-add-message-in
 add-message-in c =
@@ -60,7 +60,7 @@ same-length : tie.Need-same-length
 same-length c = search needs
 
 returns-2 : tie.Need-returns-2
-returns-2 c = search (initial-set-up, needs)
+returns-2 c = search initial-set-up depth 1
 
 pub set-up-spec : {M : Type 1} → statement M
 set-up-spec =

@@ -58,7 +58,7 @@ shared-slice-read-t25 : tie.Need-shared-slice-read-t25
 shared-slice-read-t25 c = search needs
 
 returns : tie.Need-returns
-returns c = search (message-is, needs)
+returns c = search message-is depth 1
 
 pub message-in-spec : {M : Type 1} → statement M
 message-in-spec =

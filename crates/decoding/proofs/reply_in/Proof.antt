@@ -34,7 +34,7 @@ part-result-end : tie.Need-part-result-end
 part-result-end c = search needs
 
 returns : tie.Need-returns
-returns c = search (reply-is, needs)
+returns c = search reply-is depth 1
 
 pub reply-in-spec : {M : Type 1} → statement M
 reply-in-spec =

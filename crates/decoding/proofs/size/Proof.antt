@@ -4,7 +4,7 @@ use Rattle.decoding.proofs.size.Statement.{statement}
 use Rattle.decoding.proofs.size.Tie as tie
 
 returns : tie.Need-returns
-returns c = search (size-past, needs)
+returns c = search size-past depth 1
 
 mul-tag : tie.Need-mul-tag
 mul-tag c = search needs
@@ -16,25 +16,25 @@ fitting-requires : tie.Need-fitting-requires
 fitting-requires c κs = search needs
 
 returns-2 : tie.Need-returns-2
-returns-2 c = search (size-0, needs)
+returns-2 c = search size-0 depth 1
 
 fitting-requires-2 : tie.Need-fitting-requires-2
 fitting-requires-2 c κs = search needs
 
 returns-3 : tie.Need-returns-3
-returns-3 c = search (size-1, needs)
+returns-3 c = search size-1 depth 1
 
 returns-4 : tie.Need-returns-4
-returns-4 c = search (size-2, needs)
+returns-4 c = search size-2 depth 1
 
 back-size-requires : tie.Need-back-size-requires
 back-size-requires c κs = search needs
 
 returns-5 : tie.Need-returns-5
-returns-5 c = search (size-3, needs)
+returns-5 c = search size-3 depth 1
 
 returns-6 : tie.Need-returns-6
-returns-6 c = search (size-other, needs)
+returns-6 c = search size-other depth 1
 
 pub size-spec : {M : Type 1} → statement M
 size-spec =

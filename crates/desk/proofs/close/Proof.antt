@@ -26,7 +26,7 @@ finish-requires c κs =
     let going = c .before .before .before .before .before .before .before .before .before .before .before .before .before in
     let start = going .before .before .before in
     let opened = can-finish _ (start .args .counters) _ (start .args .emitted) (start .pre) (not-false _ (going .if1 .left)) in
-    (opened .lent, opened .in-hand, search (start .good .1 .1 .0, needs))
+    (opened .lent, opened .in-hand, search (start .good .1 .1 .0) depth 1)
 
 returns-2 : tie.Need-returns-2
 returns-2 c =

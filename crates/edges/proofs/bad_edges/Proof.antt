@@ -25,16 +25,16 @@ meet-requires : tie.Need-meet-requires Inv-loop μ-loop
 meet-requires c κs = search (not-strange, needs)
 
 returns : tie.Need-returns Inv-loop μ-loop
-returns c = search (passing-stop, needs)
+returns c = search passing-stop depth 1
 
 loop-less : tie.Need-loop-less Inv-loop μ-loop
 loop-less c = search needs
 
 loop-again : tie.Need-loop-again Inv-loop μ-loop
-loop-again c = search (passing-more, needs)
+loop-again c = search passing-more depth 1
 
 returns-2 : tie.Need-returns-2 Inv-loop μ-loop
-returns-2 c = search (passing-end, needs)
+returns-2 c = search passing-end depth 1
 
 pub bad-edges-spec : {M : Type 1} → statement M
 bad-edges-spec =

@@ -28,11 +28,11 @@ shared-slice-read-result c = search needs
 
 returns : tie.Need-returns
 unfolding edgeAt
-returns c = search (and-second, eq-eqb, needs)
+returns c = search (and-second, eq-eqb) depth 1
 
 returns-2 : tie.Need-returns-2
 unfolding edgeAt
-returns-2 c = search (and-first, ne-eqb, needs)
+returns-2 c = search (and-first, ne-eqb) depth 1
 
 pub joins-spec : {M : Type 1} → statement M
 joins-spec =

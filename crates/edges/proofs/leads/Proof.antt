@@ -13,10 +13,10 @@ shr-result : tie.Need-shr-result
 shr-result c = search needs
 
 returns : tie.Need-returns
-returns c = search (leads-self, needs)
+returns c = search leads-self depth 1
 
 returns-2 : tie.Need-returns-2
-returns-2 c = search (leads-along, needs)
+returns-2 c = search leads-along depth 1
 
 pub leads-spec : {M : Type 1} → statement M
 leads-spec = tie.close (tie.spec mul-result shared-slice-read-result shr-result returns returns-2)

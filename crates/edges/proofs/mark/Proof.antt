@@ -32,7 +32,7 @@ slice-read-row : tie.Need-slice-read-row
 slice-read-row c = omega (arith, source-below _ _ (c .before .before .before .pre .2))
 
 shl-routes : tie.Need-shl-routes
-shl-routes c = search (source-below, destination-below, needs)
+shl-routes c = search (source-below, destination-below) depth 1
 
 mul-routes : tie.Need-mul-routes
 mul-routes c = omega (arith, source-below _ _ (c .before .before .before .pre .2))
@@ -44,7 +44,7 @@ same-length : tie.Need-same-length
 same-length c = search needs
 
 returns : tie.Need-returns
-returns c = search (marking, needs)
+returns c = search marking depth 1
 
 pub mark-spec : {M : Type 1} → statement M
 mark-spec =

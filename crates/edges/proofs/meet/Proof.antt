@@ -33,7 +33,7 @@ same-length : tie.Need-same-length
 same-length c = search needs
 
 returns : tie.Need-returns
-returns c = search (meet-bad, needs)
+returns c = search meet-bad depth 1
 
 mark-requires : tie.Need-mark-requires
 mark-requires c κs = search needs
@@ -42,7 +42,7 @@ same-length-2 : tie.Need-same-length-2
 same-length-2 c = search needs
 
 returns-2 : tie.Need-returns-2
-returns-2 c = search (meet-new, needs)
+returns-2 c = search meet-new depth 1
 
 pub meet-spec : {M : Type 1} → statement M
 meet-spec =

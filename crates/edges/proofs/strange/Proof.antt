@@ -28,11 +28,11 @@ shared-slice-read-result c = search needs
 
 returns : tie.Need-returns
 unfolding edgeAt
-returns c = search (or-first, le-leb, needs)
+returns c = search (or-first, le-leb) depth 1
 
 returns-2 : tie.Need-returns-2
 unfolding edgeAt
-returns-2 c = search (or-second, lt-leb, needs)
+returns-2 c = search (or-second, lt-leb) depth 1
 
 pub strange-spec : {M : Type 1} → statement M
 strange-spec =

@@ -18,7 +18,7 @@ strange-requires : tie.Need-strange-requires Inv-loop μ-loop
 strange-requires c κs = search needs
 
 returns : tie.Need-returns Inv-loop μ-loop
-returns c = search (tested-stop, needs)
+returns c = search tested-stop depth 1
 
 add-i : tie.Need-add-i Inv-loop μ-loop
 add-i c = search needs
@@ -27,10 +27,10 @@ loop-less : tie.Need-loop-less Inv-loop μ-loop
 loop-less c = search needs
 
 loop-again : tie.Need-loop-again Inv-loop μ-loop
-loop-again c = search (tested-more, needs)
+loop-again c = search tested-more depth 1
 
 returns-2 : tie.Need-returns-2 Inv-loop μ-loop
-returns-2 c = search (tested-end, needs)
+returns-2 c = search tested-end depth 1
 
 pub strange-edges-spec : {M : Type 1} → statement M
 strange-edges-spec =

@@ -15,7 +15,7 @@ abbrev μ-loop : tie.MeasureT-loop
 μ-loop w count next i₀ i = count - i
 
 loop-holds : tie.Need-loop-holds Inv-loop μ-loop
-loop-holds c = search (seeking-start, needs)
+loop-holds c = search seeking-start depth 1
 
 mul-record-in : tie.Need-mul-record-in Inv-loop μ-loop
 mul-record-in c = search needs
@@ -24,7 +24,7 @@ record-in-requires : tie.Need-record-in-requires Inv-loop μ-loop
 record-in-requires c κs = search needs
 
 returns : tie.Need-returns Inv-loop μ-loop
-returns c = search (event-found, le-leb, needs)
+returns c = search (event-found, le-leb) depth 1
 
 add-i : tie.Need-add-i Inv-loop μ-loop
 add-i c = search needs
@@ -33,10 +33,10 @@ loop-less : tie.Need-loop-less Inv-loop μ-loop
 loop-less c = search needs
 
 loop-again : tie.Need-loop-again Inv-loop μ-loop
-loop-again c = search (event-passed, lt-leb, needs)
+loop-again c = search (event-passed, lt-leb) depth 1
 
 returns-2 : tie.Need-returns-2 Inv-loop μ-loop
-returns-2 c = search (seeking-end, needs)
+returns-2 c = search seeking-end depth 1
 
 pub late-events-spec : {M : Type 1} → statement M
 late-events-spec =

@@ -14,7 +14,7 @@ abbrev μ-loop : tie.MeasureT-loop
 μ-loop w count n i₀ i = count - i
 
 loop-holds : tie.Need-loop-holds Inv-loop μ-loop
-loop-holds c = search (seeking-start, needs)
+loop-holds c = search seeking-start depth 1
 
 mul-record-in : tie.Need-mul-record-in Inv-loop μ-loop
 mul-record-in c = search needs
@@ -26,7 +26,7 @@ is-odd-requires : tie.Need-is-odd-requires Inv-loop μ-loop
 is-odd-requires c κs = search needs
 
 returns : tie.Need-returns Inv-loop μ-loop
-returns c = search (odd-found, needs)
+returns c = search odd-found depth 1
 
 add-i : tie.Need-add-i Inv-loop μ-loop
 add-i c = search needs
@@ -35,10 +35,10 @@ loop-less : tie.Need-loop-less Inv-loop μ-loop
 loop-less c = search needs
 
 loop-again : tie.Need-loop-again Inv-loop μ-loop
-loop-again c = search (odd-passed, needs)
+loop-again c = search odd-passed depth 1
 
 returns-2 : tie.Need-returns-2 Inv-loop μ-loop
-returns-2 c = search (none-odd, needs)
+returns-2 c = search none-odd depth 1
 
 pub odd-events-spec : {M : Type 1} → statement M
 odd-events-spec =

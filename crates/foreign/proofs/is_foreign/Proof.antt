@@ -12,19 +12,19 @@ returns : tie.Need-returns
 returns c = search (ruled, stops, answered, needs)
 
 odd-edges-requires : tie.Need-odd-edges-requires
-odd-edges-requires c κs = search (edges-there, few-processes, needs)
+odd-edges-requires c κs = search (edges-there, few-processes) depth 1
 
 returns-2 : tie.Need-returns-2
 returns-2 c = search (ruled, stops, goes-on, answered, needs)
 
 odd-pending-requires : tie.Need-odd-pending-requires
-odd-pending-requires c κs = search (pending-there, needs)
+odd-pending-requires c κs = search pending-there depth 1
 
 returns-3 : tie.Need-returns-3
 returns-3 c = search (ruled, stops, goes-on, answered, needs)
 
 odd-batch-requires : tie.Need-odd-batch-requires
-odd-batch-requires c κs = search (batch-there, needs)
+odd-batch-requires c κs = search batch-there depth 1
 
 returns-4 : tie.Need-returns-4
 returns-4 c = search (ruled, goes-on, ends, answered, needs)

@@ -7,13 +7,13 @@ odd-events-requires : tie.Need-odd-events-requires
 odd-events-requires c κs = search needs
 
 returns : tie.Need-returns
-returns c = search (stops, answered, needs)
+returns c = search (stops, answered) depth 2
 
 rises-by-process-requires : tie.Need-rises-by-process-requires
 rises-by-process-requires c κs = search needs
 
 returns-2 : tie.Need-returns-2
-returns-2 c = search (goes-on, ends, answered, inverted, needs)
+returns-2 c = search (goes-on, ends, answered, inverted) depth 2
 
 pub odd-batch-spec : {M : Type 1} → statement M
 odd-batch-spec =

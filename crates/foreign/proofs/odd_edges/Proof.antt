@@ -8,13 +8,13 @@ strange-edges-requires : tie.Need-strange-edges-requires
 strange-edges-requires c κs = search needs
 
 returns : tie.Need-returns
-returns c = search (stops, answered, needs)
+returns c = search (stops, answered) depth 2
 
 bad-edges-requires : tie.Need-bad-edges-requires
-bad-edges-requires c κs = search (ends-low, needs)
+bad-edges-requires c κs = search ends-low depth 1
 
 returns-2 : tie.Need-returns-2
-returns-2 c = search (goes-on, ends, answered, needs)
+returns-2 c = search (goes-on, ends, answered) depth 2
 
 pub odd-edges-spec : {M : Type 1} → statement M
 odd-edges-spec = tie.close (tie.spec strange-edges-requires returns bad-edges-requires returns-2)

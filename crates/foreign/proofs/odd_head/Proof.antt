@@ -7,7 +7,7 @@ odd-size-requires : tie.Need-odd-size-requires
 odd-size-requires c κs = search needs
 
 returns : tie.Need-returns
-returns c = search (stops, answered, needs)
+returns c = search (stops, answered) depth 2
 
 over-limit-requires : tie.Need-over-limit-requires
 over-limit-requires c κs = search needs

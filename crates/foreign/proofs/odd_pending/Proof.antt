@@ -7,7 +7,7 @@ odd-events-requires : tie.Need-odd-events-requires
 odd-events-requires c κs = search needs
 
 returns : tie.Need-returns
-returns c = search (stops, answered, needs)
+returns c = search (stops, answered) depth 2
 
 strictly-rising-requires : tie.Need-strictly-rising-requires
 strictly-rising-requires c κs = search needs

@@ -8,13 +8,13 @@ is-at-top-requires : tie.Need-is-at-top-requires
 is-at-top-requires c κs = search needs
 
 returns : tie.Need-returns
-returns c = search (stops, answered, needs)
+returns c = search (stops, answered) depth 2
 
 returns-2 : tie.Need-returns-2
-returns-2 c = search (with-run, answered, needs)
+returns-2 c = search (with-run, answered) depth 2
 
 returns-3 : tie.Need-returns-3
-returns-3 c = search (without-run, answered, needs)
+returns-3 c = search (without-run, answered) depth 2
 
 pub odd-run-spec : {M : Type 1} → statement M
 odd-run-spec = tie.close (tie.spec is-at-top-requires returns returns-2 returns-3)

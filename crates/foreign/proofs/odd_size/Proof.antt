@@ -5,16 +5,16 @@ use Rattle.foreign.proofs.odd_size.Statement.{statement}
 use Rattle.foreign.proofs.odd_size.Tie as tie
 
 returns : tie.Need-returns
-returns c = search (stops, eq-eqb, needs)
+returns c = search (stops, eq-eqb) depth 1
 
 returns-2 : tie.Need-returns-2
-returns-2 c = search (stops, goes-on, ne-eqb, lt-ltb, needs)
+returns-2 c = search (stops, goes-on, ne-eqb, lt-ltb) depth 2
 
 is-zero-requires : tie.Need-is-zero-requires
 is-zero-requires c κs = search needs
 
 returns-3 : tie.Need-returns-3
-returns-3 c = search (goes-on, ends, ne-eqb, le-ltb, needs)
+returns-3 c = search (goes-on, ends, ne-eqb, le-ltb) depth 2
 
 pub odd-size-spec : {M : Type 1} → statement M
 odd-size-spec = tie.close (tie.spec returns returns-2 is-zero-requires returns-3)

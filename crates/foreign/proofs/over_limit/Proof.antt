@@ -5,10 +5,10 @@ use Rattle.foreign.proofs.over_limit.Statement.{statement}
 use Rattle.foreign.proofs.over_limit.Tie as tie
 
 returns : tie.Need-returns
-returns c = search (stops, lt-ltb, needs)
+returns c = search (stops, lt-ltb) depth 1
 
 returns-2 : tie.Need-returns-2
-returns-2 c = search (stops, goes-on, lt-ltb, le-ltb, needs)
+returns-2 c = search (stops, goes-on, lt-ltb, le-ltb) depth 2
 
 returns-3 : tie.Need-returns-3
 returns-3 c = search (goes-on, ends, le-ltb, needs)

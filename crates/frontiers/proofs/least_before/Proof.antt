@@ -43,7 +43,7 @@ loop-again c =
     (omega arith, least-more _ _ (l .i) (l .low) _ _ _ (omega arith) (l .inv .1) t (c .min .ensures))
 
 returns : tie.Need-returns Inv-loop μ-loop
-returns c = search (before-end, needs)
+returns c = search before-end depth 1
 
 pub least-before-spec : {M : Type 1} → statement M
 least-before-spec =

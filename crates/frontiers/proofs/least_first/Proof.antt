@@ -38,7 +38,7 @@ loop-again c =
     (omega arith, least-more _ _ (l .i) (l .low) _ _ _ (omega arith) (l .inv .1) (c .before .tick-in .ensures) (c .min .ensures))
 
 returns : tie.Need-returns Inv-loop μ-loop
-returns c = search (least-end, needs)
+returns c = search least-end depth 1
 
 pub least-first-spec : {M : Type 1} → statement M
 least-first-spec =

@@ -40,16 +40,16 @@ same-length : tie.Need-same-length
 same-length c = search needs
 
 returns : tie.Need-returns
-returns c = search (lower-yes, needs)
+returns c = search lower-yes depth 1
 
 same-length-2 : tie.Need-same-length-2
 same-length-2 c = search needs
 
 returns-2 : tie.Need-returns-2
-returns-2 c = search (lower-kept, needs)
+returns-2 c = search lower-kept depth 1
 
 returns-3 : tie.Need-returns-3
-returns-3 c = search (lower-no, needs)
+returns-3 c = search lower-no depth 1
 
 pub lower-spec : {M : Type 1} → statement M
 lower-spec =

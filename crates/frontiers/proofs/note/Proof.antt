@@ -31,10 +31,10 @@ same-length : tie.Need-same-length
 same-length c = search needs
 
 returns : tie.Need-returns
-returns c = search (note-yes, needs)
+returns c = search note-yes depth 1
 
 returns-2 : tie.Need-returns-2
-returns-2 c = search (note-no, needs)
+returns-2 c = search note-no depth 1
 
 pub note-spec : {M : Type 1} → statement M
 note-spec =

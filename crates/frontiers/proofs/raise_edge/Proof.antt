@@ -46,13 +46,13 @@ same-length : tie.Need-same-length
 same-length c = search needs
 
 returns : tie.Need-returns
-returns c = search (edge-up, needs)
+returns c = search edge-up depth 1
 
 same-length-2 : tie.Need-same-length-2
 same-length-2 c = search needs
 
 returns-2 : tie.Need-returns-2
-returns-2 c = search (edge-kept, needs)
+returns-2 c = search edge-kept depth 1
 
 pub raise-edge-spec : {M : Type 1} → statement M
 raise-edge-spec =

@@ -14,7 +14,7 @@ abbrev μ-loop : tie.MeasureT-loop
 μ-loop edges₀ count aims top lookahead raised₀ i₀ edges raised i = i
 
 loop-holds : tie.Need-loop-holds Inv-loop μ-loop
-loop-holds c = search (lifting-start, needs)
+loop-holds c = search lifting-start depth 1
 
 sub-i : tie.Need-sub-i Inv-loop μ-loop
 sub-i c = search needs
@@ -35,7 +35,7 @@ same-length : tie.Need-same-length Inv-loop μ-loop
 same-length c = search needs
 
 returns : tie.Need-returns Inv-loop μ-loop
-returns c = search (lifting-end, needs)
+returns c = search lifting-end depth 1
 
 pub raise-edges-spec : {M : Type 1} → statement M
 raise-edges-spec =

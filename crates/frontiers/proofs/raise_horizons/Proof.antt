@@ -12,7 +12,7 @@ abbrev μ-loop : tie.MeasureT-loop
 μ-loop horizons₀ n aims rose₀ i₀ horizons rose i = i
 
 loop-holds : tie.Need-loop-holds Inv-loop μ-loop
-loop-holds c = search (rising-start, needs)
+loop-holds c = search rising-start depth 1
 
 sub-i : tie.Need-sub-i Inv-loop μ-loop
 sub-i c = search needs
@@ -24,19 +24,19 @@ loop-less : tie.Need-loop-less Inv-loop μ-loop
 loop-less c = search needs
 
 loop-again : tie.Need-loop-again Inv-loop μ-loop
-loop-again c = search (rising-up, needs)
+loop-again c = search rising-up depth 1
 
 loop-less-2 : tie.Need-loop-less-2 Inv-loop μ-loop
 loop-less-2 c = search needs
 
 loop-again-2 : tie.Need-loop-again-2 Inv-loop μ-loop
-loop-again-2 c = search (rising-same, needs)
+loop-again-2 c = search rising-same depth 1
 
 same-length : tie.Need-same-length Inv-loop μ-loop
 same-length c = search needs
 
 returns : tie.Need-returns Inv-loop μ-loop
-returns c = search (rising-end, needs)
+returns c = search rising-end depth 1
 
 pub raise-horizons-spec : {M : Type 1} → statement M
 raise-horizons-spec =

@@ -17,7 +17,7 @@ slice-aggregate-judge-reply c = search needs
 judge-reply-requires : tie.Need-judge-reply-requires
 judge-reply-requires c κs =
     let start = c .before .before .before .before .before .before .before .before in
-    judgeable (start .args .head) _ _ _ (start .args .mask) _ _ (search (c .before .routes2 .given, needs)) (start .pre)
+    judgeable (start .args .head) _ _ _ (start .args .mask) _ _ (search (c .before .routes2 .given) depth 1) (start .pre)
 
 returns : tie.Need-returns
 returns c =

@@ -5,10 +5,10 @@ use Rattle.judging.proofs.judge.Statement.{statement}
 use Rattle.judging.proofs.judge.Tie as tie
 
 returns : tie.Need-returns
-returns c = search (mismatch, needs)
+returns c = search mismatch depth 1
 
 returns-2 : tie.Need-returns-2
-returns-2 c = search (unknown, needs)
+returns-2 c = search unknown depth 1
 
 leads-requires : tie.Need-leads-requires
 leads-requires c κs = search needs

@@ -13,16 +13,16 @@ lt-requires : tie.Need-lt-requires
 lt-requires c κs = search needs
 
 returns : tie.Need-returns
-returns c = search (violation, needs)
+returns c = search violation depth 1
 
 lt-requires-2 : tie.Need-lt-requires-2
 lt-requires-2 c κs = search needs
 
 returns-2 : tie.Need-returns-2
-returns-2 c = search (straggler, needs)
+returns-2 c = search straggler depth 1
 
 returns-3 : tie.Need-returns-3
-returns-3 c = search (in-time, needs)
+returns-3 c = search in-time depth 1
 
 pub judge-tick-spec : {M : Type 1} → statement M
 judge-tick-spec =

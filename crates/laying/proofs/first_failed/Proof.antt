@@ -11,7 +11,7 @@ abbrev μ-loop : tie.MeasureT-loop
 μ-loop batch count mask i₀ i = count - i
 
 loop-holds : tie.Need-loop-holds Inv-loop μ-loop
-loop-holds c = search (failing-start, needs)
+loop-holds c = search failing-start depth 1
 
 mul-p : tie.Need-mul-p Inv-loop μ-loop
 mul-p c = search needs
@@ -23,10 +23,10 @@ shared-slice-read-p : tie.Need-shared-slice-read-p Inv-loop μ-loop
 shared-slice-read-p c = search needs
 
 failed-requires : tie.Need-failed-requires Inv-loop μ-loop
-failed-requires c κs = search (owner, needs)
+failed-requires c κs = search owner depth 1
 
 returns : tie.Need-returns Inv-loop μ-loop
-returns c = search (failing-here, needs)
+returns c = search failing-here depth 1
 
 add-i : tie.Need-add-i Inv-loop μ-loop
 add-i c = search needs
@@ -35,10 +35,10 @@ loop-less : tie.Need-loop-less Inv-loop μ-loop
 loop-less c = search needs
 
 loop-again : tie.Need-loop-again Inv-loop μ-loop
-loop-again c = search (failing-more, needs)
+loop-again c = search failing-more depth 1
 
 returns-2 : tie.Need-returns-2 Inv-loop μ-loop
-returns-2 c = search (failing-end, needs)
+returns-2 c = search failing-end depth 1
 
 pub first-failed-spec : {M : Type 1} → statement M
 first-failed-spec =

@@ -69,7 +69,7 @@ returns-2 c =
     let strange = known .before in
     let found = strange .before .before .before in
     let start = found .before .before .before .before .before .before .before in
-    lay-laid (start .args .head) _ _ _ _ (start .args .mask) (start .pre .1) _ (found .find-places .ensures) _ (strange .strange-mask .ensures) (known .if1 .left) (search needs) _ (search (fill .before .before .before .before .routes2 .given, needs)) (routes .find-routes .ensures) _ (fill .fill .ensures) _ (c .first-failed .ensures)
+    lay-laid (start .args .head) _ _ _ _ (start .args .mask) (start .pre .1) _ (found .find-places .ensures) _ (strange .strange-mask .ensures) (known .if1 .left) (search needs) _ (search (fill .before .before .before .before .routes2 .given) depth 1) (routes .find-routes .ensures) _ (fill .fill .ensures) _ (c .first-failed .ensures)
 
 pub lay-spec : {M : Type 1} → statement M
 lay-spec =

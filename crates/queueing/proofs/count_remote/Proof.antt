@@ -10,7 +10,7 @@ abbrev μ-loop : tie.MeasureT-loop
 μ-loop w k remote₀ i₀ remote i = i
 
 loop-holds : tie.Need-loop-holds Inv-loop μ-loop
-loop-holds c = search (counting-start, needs)
+loop-holds c = search counting-start depth 1
 
 sub-i : tie.Need-sub-i Inv-loop μ-loop
 sub-i c = search needs
@@ -28,16 +28,16 @@ loop-less : tie.Need-loop-less Inv-loop μ-loop
 loop-less c = search needs
 
 loop-again : tie.Need-loop-again Inv-loop μ-loop
-loop-again c = search (counting-more, needs)
+loop-again c = search counting-more depth 1
 
 loop-less-2 : tie.Need-loop-less-2 Inv-loop μ-loop
 loop-less-2 c = search needs
 
 loop-again-2 : tie.Need-loop-again-2 Inv-loop μ-loop
-loop-again-2 c = search (counting-same, needs)
+loop-again-2 c = search counting-same depth 1
 
 returns : tie.Need-returns Inv-loop μ-loop
-returns c = search (counting-end, needs)
+returns c = search counting-end depth 1
 
 pub count-remote-spec : {M : Type 1} → statement M
 count-remote-spec =

@@ -13,7 +13,7 @@ abbrev μ-loop : tie.MeasureT-loop
 μ-loop pending₀ count next w k i₀ pending i = k - i
 
 loop-holds : tie.Need-loop-holds Inv-loop μ-loop
-loop-holds c = search (queueing-start, needs)
+loop-holds c = search queueing-start depth 1
 
 mul-emission-in : tie.Need-mul-emission-in Inv-loop μ-loop
 mul-emission-in c = search needs
@@ -40,13 +40,13 @@ loop-less : tie.Need-loop-less Inv-loop μ-loop
 loop-less c = search needs
 
 loop-again : tie.Need-loop-again Inv-loop μ-loop
-loop-again c = search (queueing-more, needs)
+loop-again c = search queueing-more depth 1
 
 same-length : tie.Need-same-length Inv-loop μ-loop
 same-length c = search needs
 
 returns : tie.Need-returns Inv-loop μ-loop
-returns c = search (queueing-end, needs)
+returns c = search queueing-end depth 1
 
 pub queue-all-spec : {M : Type 1} → statement M
 queue-all-spec =

@@ -10,10 +10,10 @@ enum-told : tie.Need-enum-told
 enum-told c = search needs
 
 rehearse-built-requires : tie.Need-rehearse-built-requires
-rehearse-built-requires c κs = search (startable, needs)
+rehearse-built-requires c κs = search startable depth 1
 
 returns : tie.Need-returns
-returns c = search (rehearsed, needs)
+returns c = search rehearsed depth 1
 
 no-head-requires : tie.Need-no-head-requires
 no-head-requires c κs = search needs
@@ -22,7 +22,7 @@ none-counted-requires : tie.Need-none-counted-requires
 none-counted-requires c κs = search needs
 
 returns-2 : tie.Need-returns-2
-returns-2 c = search (turned-away, needs)
+returns-2 c = search turned-away depth 1
 
 pub rehearse-spec : {M : Type 1} → statement M
 rehearse-spec =

@@ -22,7 +22,7 @@ slice-aggregate-run-4 : tie.Need-slice-aggregate-run-4
 slice-aggregate-run-4 c = search needs
 
 run-requires : tie.Need-run-requires
-run-requires c κs = search (laid-lent, needs)
+run-requires c κs = search laid-lent depth 1
 
 returns : tie.Need-returns
 returns c =

@@ -21,7 +21,7 @@ size-requires : tie.Need-size-requires Inv-loop μ-loop
 size-requires c κs = search needs
 
 loop-holds : tie.Need-loop-holds Inv-loop μ-loop
-loop-holds c = search (running-start, needs)
+loop-holds c = search running-start depth 1
 
 carry-out-requires : tie.Need-carry-out-requires Inv-loop μ-loop
 carry-out-requires c κs = search needs
@@ -50,7 +50,7 @@ loop-less c =
     omega (arith, behind _ _ _ _ _ _ _ _ _ _ _ _ _ _ _ (loop .inv) (turn .loop-test .taken), turn .loop-test .taken)
 
 loop-again : tie.Need-loop-again Inv-loop μ-loop
-loop-again c = search (running-more, needs)
+loop-again c = search running-more depth 1
 
 same-length : tie.Need-same-length Inv-loop μ-loop
 same-length c = search needs
@@ -65,7 +65,7 @@ same-length-4 : tie.Need-same-length-4 Inv-loop μ-loop
 same-length-4 c = search needs
 
 returns : tie.Need-returns Inv-loop μ-loop
-returns c = search (running-end, needs)
+returns c = search running-end depth 1
 
 pub run-spec : {M : Type 1} → statement M
 run-spec =

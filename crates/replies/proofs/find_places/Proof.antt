@@ -48,7 +48,7 @@ same-length : tie.Need-same-length Inv-loop μ-loop
 same-length c = search needs
 
 returns : tie.Need-returns Inv-loop μ-loop
-returns c = search (placing-end, needs)
+returns c = search placing-end depth 1
 
 pub find-places-spec : {M : Type 1} → statement M
 find-places-spec =

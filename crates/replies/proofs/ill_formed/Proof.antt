@@ -4,10 +4,10 @@ use Rattle.replies.proofs.ill_formed.Statement.{statement}
 use Rattle.replies.proofs.ill_formed.Tie as tie
 
 returns : tie.Need-returns
-returns c = search (ill-fallen, needs)
+returns c = search ill-fallen depth 1
 
 returns-2 : tie.Need-returns-2
-returns-2 c = search (ill-past, needs)
+returns-2 c = search ill-past depth 1
 
 mul-if3 : tie.Need-mul-if3
 mul-if3 c = search needs
@@ -16,16 +16,16 @@ shared-slice-read-if3 : tie.Need-shared-slice-read-if3
 shared-slice-read-if3 c = search needs
 
 returns-3 : tie.Need-returns-3
-returns-3 c = search (ill-unknown, needs)
+returns-3 c = search ill-unknown depth 1
 
 failed-requires : tie.Need-failed-requires
 failed-requires c κs = search needs
 
 returns-4 : tie.Need-returns-4
-returns-4 c = search (ill-failed, needs)
+returns-4 c = search ill-failed depth 1
 
 returns-5 : tie.Need-returns-5
-returns-5 c = search (ill-long, needs)
+returns-5 c = search ill-long depth 1
 
 pub ill-formed-spec : {M : Type 1} → statement M
 ill-formed-spec =

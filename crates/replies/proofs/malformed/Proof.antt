@@ -14,7 +14,7 @@ strange-mask-requires : tie.Need-strange-mask-requires Inv-loop μ-loop
 strange-mask-requires c κs = search needs
 
 returns : tie.Need-returns Inv-loop μ-loop
-returns c = search (strange-first, needs)
+returns c = search strange-first depth 1
 
 loop-holds : tie.Need-loop-holds Inv-loop μ-loop
 loop-holds c = search (judging-start, needs)
@@ -29,7 +29,7 @@ ill-formed-requires : tie.Need-ill-formed-requires Inv-loop μ-loop
 ill-formed-requires c κs = search needs
 
 returns-2 : tie.Need-returns-2 Inv-loop μ-loop
-returns-2 c = search (judging-stop, needs)
+returns-2 c = search judging-stop depth 1
 
 add-i : tie.Need-add-i Inv-loop μ-loop
 add-i c = search needs
@@ -41,7 +41,7 @@ loop-again : tie.Need-loop-again Inv-loop μ-loop
 loop-again c = search (judging-more, needs)
 
 returns-3 : tie.Need-returns-3 Inv-loop μ-loop
-returns-3 c = search (judging-end, needs)
+returns-3 c = search judging-end depth 1
 
 pub malformed-spec : {M : Type 1} → statement M
 malformed-spec =

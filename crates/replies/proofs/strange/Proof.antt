@@ -10,13 +10,13 @@ shared-slice-read-if1 : tie.Need-shared-slice-read-if1
 shared-slice-read-if1 c = search needs
 
 returns : tie.Need-returns
-returns c = search (strange-in, needs)
+returns c = search strange-in depth 1
 
 failed-requires : tie.Need-failed-requires
 failed-requires c κs = search needs
 
 returns-2 : tie.Need-returns-2
-returns-2 c = search (strange-out, needs)
+returns-2 c = search strange-out depth 1
 
 pub strange-spec : {M : Type 1} → statement M
 strange-spec = tie.close (tie.spec mul-if1 shared-slice-read-if1 returns failed-requires returns-2)

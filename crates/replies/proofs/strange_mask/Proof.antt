@@ -17,7 +17,7 @@ strange-requires : tie.Need-strange-requires Inv-loop μ-loop
 strange-requires c κs = search needs
 
 returns : tie.Need-returns Inv-loop μ-loop
-returns c = search (scanning-stop, needs)
+returns c = search scanning-stop depth 1
 
 add-p : tie.Need-add-p Inv-loop μ-loop
 add-p c = search needs
@@ -29,7 +29,7 @@ loop-again : tie.Need-loop-again Inv-loop μ-loop
 loop-again c = search (scanning-more, needs)
 
 returns-2 : tie.Need-returns-2 Inv-loop μ-loop
-returns-2 c = search (scanning-end, needs)
+returns-2 c = search scanning-end depth 1
 
 pub strange-mask-spec : {M : Type 1} → statement M
 strange-mask-spec =

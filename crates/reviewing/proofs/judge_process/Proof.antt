@@ -12,7 +12,7 @@ abbrev μ-loop : tie.MeasureT-loop
 μ-loop head routes horizons w from count p time i₀ i = count - i
 
 loop-holds : tie.Need-loop-holds Inv-loop μ-loop
-loop-holds c = search (own-start, needs)
+loop-holds c = search own-start depth 1
 
 mul-emission-in : tie.Need-mul-emission-in Inv-loop μ-loop
 mul-emission-in c = search needs
@@ -24,7 +24,7 @@ passed-requires : tie.Need-passed-requires Inv-loop μ-loop
 passed-requires c κs = search needs
 
 returns : tie.Need-returns Inv-loop μ-loop
-returns c = search (own-other, needs)
+returns c = search own-other depth 1
 
 judge-requires : tie.Need-judge-requires Inv-loop μ-loop
 judge-requires c κs = search needs
@@ -59,7 +59,7 @@ passed-requires-2 : tie.Need-passed-requires-2 Inv-loop μ-loop
 passed-requires-2 c κs = search needs
 
 returns-3 : tie.Need-returns-3 Inv-loop μ-loop
-returns-3 c = search (own-end, needs)
+returns-3 c = search own-end depth 1
 
 pub judge-process-spec : {M : Type 1} → statement M
 judge-process-spec =

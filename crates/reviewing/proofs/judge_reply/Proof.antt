@@ -12,7 +12,7 @@ abbrev μ-loop : tie.MeasureT-loop
 μ-loop head routes horizons batch mask w count events b₀ i₀ b i = head .batch - b
 
 loop-holds : tie.Need-loop-holds Inv-loop μ-loop
-loop-holds c = search (walk-start, needs)
+loop-holds c = search walk-start depth 1
 
 mul-record-in : tie.Need-mul-record-in Inv-loop μ-loop
 mul-record-in c = search needs
@@ -81,7 +81,7 @@ loop-again c =
     walk-more (start .args .head) _ _ _ _ _ _ _ _ (loop .loop .inv) (turn .loop-test .taken) (read .record-in .result) (read .record-in .ensures) _ (failed .failed .ensures) (going .if1 .left) (tick .tick .result) (tick .tick .ensures) (judged .judge-process .result) (judged .judge-process .ensures) (not-false _ (c .if2 .left))
 
 returns-3 : tie.Need-returns-3 Inv-loop μ-loop
-returns-3 c = search (walk-end, needs)
+returns-3 c = search walk-end depth 1
 
 pub judge-reply-spec : {M : Type 1} → statement M
 judge-reply-spec =

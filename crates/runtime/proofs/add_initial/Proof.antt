@@ -8,7 +8,7 @@ is-foreign-requires : tie.Need-is-foreign-requires
 is-foreign-requires c κs = search needs
 
 foreign-state-requires : tie.Need-foreign-state-requires
-foreign-state-requires c κs = search (judged, whole, needs)
+foreign-state-requires c κs = search (judged, whole) depth 1
 
 returns : tie.Need-returns
 returns c = c .foreign-state .ensures _
@@ -17,10 +17,10 @@ slice-aggregate-add-initial : tie.Need-slice-aggregate-add-initial
 slice-aggregate-add-initial c = search needs
 
 add-initial-requires : tie.Need-add-initial-requires
-add-initial-requires c κs = (search (can-look, whole, needs), search (can-queue, whole, needs))
+add-initial-requires c κs = (search (can-look, whole) depth 1, search (can-queue, whole) depth 1)
 
 returns-2 : tie.Need-returns-2
-returns-2 c = search (carries-initial, whole, needs)
+returns-2 c = search (carries-initial, whole) depth 2
 
 pub add-initial-spec : {M : Type 1} → statement M
 add-initial-spec =

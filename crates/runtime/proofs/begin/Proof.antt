@@ -8,7 +8,7 @@ is-foreign-requires : tie.Need-is-foreign-requires
 is-foreign-requires c κs = search needs
 
 foreign-state-requires : tie.Need-foreign-state-requires
-foreign-state-requires c κs = search (judged, whole, needs)
+foreign-state-requires c κs = search (judged, whole) depth 1
 
 returns : tie.Need-returns
 returns c = c .foreign-state .ensures _
@@ -17,7 +17,7 @@ begin-requires : tie.Need-begin-requires
 begin-requires c κs = search needs
 
 returns-2 : tie.Need-returns-2
-returns-2 c = search (carries-begin, whole, needs)
+returns-2 c = search (carries-begin, whole) depth 2
 
 pub begin-spec : {M : Type 1} → statement M
 begin-spec =

@@ -10,7 +10,7 @@ lay-out-requires : tie.Need-lay-out-requires
 lay-out-requires c κs = search needs
 
 returns : tie.Need-returns
-returns c = search (made, needs)
+returns c = search made depth 1
 
 pub make-spec : {M : Type 1} → statement M
 make-spec = tie.close (tie.spec slice-aggregate-lay-out lay-out-requires returns)

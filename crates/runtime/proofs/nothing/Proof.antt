@@ -7,7 +7,7 @@ no-head-requires : tie.Need-no-head-requires
 no-head-requires c κs = search needs
 
 returns : tie.Need-returns
-returns c = search (empty, needs)
+returns c = search empty depth 1
 
 pub nothing-spec : {M : Type 1} → statement M
 nothing-spec = tie.close (tie.spec no-head-requires returns)

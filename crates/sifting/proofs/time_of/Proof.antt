@@ -40,7 +40,7 @@ tick-requires : tie.Need-tick-requires
 tick-requires c κs = search needs
 
 returns : tie.Need-returns
-returns c = search (ticked, needs)
+returns c = search ticked depth 1
 
 pub time-of-spec : {M : Type 1} → statement M
 time-of-spec =

@@ -4,10 +4,10 @@ use Rattle.starting.proofs.refusal.Statement.{statement}
 use Rattle.starting.proofs.refusal.Tie as tie
 
 returns : tie.Need-returns
-returns c = search (poisoned, needs)
+returns c = search poisoned depth 1
 
 returns-2 : tie.Need-returns-2
-returns-2 c = search (run-open, needs)
+returns-2 c = search run-open depth 1
 
 last-horizon-requires : tie.Need-last-horizon-requires
 last-horizon-requires c κs = search needs
@@ -16,16 +16,16 @@ lt-requires : tie.Need-lt-requires
 lt-requires c κs = search needs
 
 returns-3 : tie.Need-returns-3
-returns-3 c = search (regression, needs)
+returns-3 c = search regression depth 1
 
 is-largest-requires : tie.Need-is-largest-requires
 is-largest-requires c κs = search needs
 
 returns-4 : tie.Need-returns-4
-returns-4 c = search (overflow, needs)
+returns-4 c = search overflow depth 1
 
 returns-5 : tie.Need-returns-5
-returns-5 c = search (begun, needs)
+returns-5 c = search begun depth 1
 
 pub refusal-spec : {M : Type 1} → statement M
 refusal-spec =

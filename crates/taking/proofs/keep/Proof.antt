@@ -19,10 +19,10 @@ same-length : tie.Need-same-length
 same-length c = search needs
 
 returns : tie.Need-returns
-returns c = search (keep-moved, needs)
+returns c = search keep-moved depth 1
 
 returns-2 : tie.Need-returns-2
-returns-2 c = search (keep-here, needs)
+returns-2 c = search keep-here depth 1
 
 pub keep-spec : {M : Type 1} → statement M
 keep-spec =

@@ -16,7 +16,7 @@ loop-holds : tie.Need-loop-holds Inv-loop μ-loop
 loop-holds c = (search needs, search needs, sifting-start _ _ _ _ _)
 
 sift-requires : tie.Need-sift-requires Inv-loop μ-loop
-sift-requires c κs = search (siftable-at, needs)
+sift-requires c κs = search siftable-at depth 1
 
 add-i : tie.Need-add-i Inv-loop μ-loop
 add-i c = search needs
@@ -25,7 +25,7 @@ loop-less : tie.Need-loop-less Inv-loop μ-loop
 loop-less c = search needs
 
 loop-again : tie.Need-loop-again Inv-loop μ-loop
-loop-again c = (search needs, search needs, search (sifting-more, needs))
+loop-again c = (search needs, search needs, search sifting-more depth 1)
 
 same-length : tie.Need-same-length Inv-loop μ-loop
 same-length c = search needs
@@ -34,7 +34,7 @@ same-length-2 : tie.Need-same-length-2 Inv-loop μ-loop
 same-length-2 c = search needs
 
 returns : tie.Need-returns Inv-loop μ-loop
-returns c = search (sifting-end, needs)
+returns c = search sifting-end depth 1
 
 pub take-batch-spec : {M : Type 1} → statement M
 take-batch-spec =

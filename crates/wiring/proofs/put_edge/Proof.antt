@@ -42,10 +42,10 @@ put-tick-requires : tie.Need-put-tick-requires
 put-tick-requires c κs = simp length-set (omega arith)
 
 same-length : tie.Need-same-length
-same-length c = search (length-one, needs)
+same-length c = search length-one depth 1
 
 returns : tie.Need-returns
-returns c = search (written-one, needs)
+returns c = search written-one depth 1
 
 pub put-edge-spec : {M : Type 1} → statement M
 put-edge-spec =

@@ -15,7 +15,7 @@ abbrev μ-loop : tie.MeasureT-loop
 μ-loop sources counts destinations edges₀ bound at₀ i₀ edges at i = length sources - i
 
 loop-holds : tie.Need-loop-holds Inv-loop μ-loop
-loop-holds c = search (wiring-start, needs)
+loop-holds c = search wiring-start depth 1
 
 mul-t11 : tie.Need-mul-t11 Inv-loop μ-loop
 mul-t11 c = search needs
@@ -42,10 +42,10 @@ part-write-row-start : tie.Need-part-write-row-start Inv-loop μ-loop
 part-write-row-start c = search needs
 
 part-write-row-end : tie.Need-part-write-row-end Inv-loop μ-loop
-part-write-row-end c = search (row-fits, needs)
+part-write-row-end c = search row-fits depth 1
 
 write-row-requires : tie.Need-write-row-requires Inv-loop μ-loop
-write-row-requires c κs = search (row-room, needs)
+write-row-requires c κs = search row-room depth 1
 
 add-i : tie.Need-add-i Inv-loop μ-loop
 add-i c = search needs
@@ -60,7 +60,7 @@ same-length : tie.Need-same-length Inv-loop μ-loop
 same-length c = search needs
 
 returns : tie.Need-returns Inv-loop μ-loop
-returns c = search (wiring-end, needs)
+returns c = search wiring-end depth 1
 
 pub write-edges-spec : {M : Type 1} → statement M
 write-edges-spec =

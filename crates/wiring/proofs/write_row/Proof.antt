@@ -43,7 +43,7 @@ same-length : tie.Need-same-length Inv-loop μ-loop
 same-length c = search needs
 
 returns : tie.Need-returns Inv-loop μ-loop
-returns c = search (row-end, needs)
+returns c = search row-end depth 1
 
 pub write-row-spec : {M : Type 1} → statement M
 write-row-spec =
