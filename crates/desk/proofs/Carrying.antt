@@ -23,7 +23,7 @@ use Rattle.state.specs.declared.Answer.the-variants as P
 use Rattle.state.specs.Lent.{Lent}
 use Rattle.state.proofs.Facts.{few-processes, few-pending, few-batch, in-order, newest}
 use Rattle.foreign.specs.Tests.{IsForeign}
-use Rattle.foreign.proofs.Grouped.{whole}
+use Rattle.foreign.proofs.Grouped.{judged}
 use Rattle.sifting.specs.declared.Sifted.{Sifted}
 use Rattle.sifting.specs.declared.Desk.{Desk}
 use Rattle.sifting.specs.Desks.{routesIn, horizonsIn, batchIn, placesIn}
@@ -54,11 +54,11 @@ module _ (h : Head) (E Q Z B : List ℕ) (e : length E ≡ 2048) (q : length Q �
   stopped a n k = record { passes = λ y. absurd (n y); healthy = λ y. absurd (n y); in-hand = λ y. absurd (n y); refused = λ _. k }
 
   pub stopped-11 : x ≡ true → Stops h E Q Z B P.ForeignState
-  stopped-11 t = stopped _ (λ y. let w : _≡_ {A = ℕ} 0 1 = cc in omega arith) (λ mask xs c. carries-foreign given c (sym (whole given x i) ∙ t) (HandBack mask xs))
+  stopped-11 t = stopped _ (λ y. let w : _≡_ {A = ℕ} 0 1 = cc in omega arith) (λ mask xs c. carries-foreign given c (judged given x true i t) (HandBack mask xs))
 
   module _ (f : x ≡ false) where
     lent : Lent h E Q Z B
-    lent = record { edge-words = e; pending-words = q; horizon-words = z; batch-words = b; passes = sym (whole given x i) ∙ f }
+    lent = record { edge-words = e; pending-words = q; horizon-words = z; batch-words = b; passes = judged given x false i f }
 
     pub stopped-12 : h .poisoned ≡ true → Stops h E Q Z B P.Poisoned
     stopped-12 p = stopped _ (λ y. let w : _≡_ {A = ℕ} 0 1 = cc in omega arith) (λ mask xs c. unmoved-back given c mask xs P.Poisoned (back-dead h c E Q Z B mask xs lent p))

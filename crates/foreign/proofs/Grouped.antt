@@ -61,6 +61,7 @@ ruled h edges pending batch r e horizons =
     rw (w, length-tab (edgeAt edges) 0 (h .edges), length-tab (eventAt pending) 0 (h .pending), length-tab (eventAt batch) 0 (h .batch), some-tab (eventAt batch) 0 (h .batch))
     (e ∙ regrouped _ _ _ _ _ _ _ _ _ _ _ _ _ _ _ _ _ _)
 
-pub whole : (s : Runtime) (x : Bool) → IsForeign (s .head) (s .edges) (s .pending) (s .batch) x → x ≡ foreign (viewOf s)
+-- What the answer x of `is_foreign` tells of the state.
+pub judged : (s : Runtime) (x b : Bool) → IsForeign (s .head) (s .edges) (s .pending) (s .batch) x → x ≡ b → foreign (viewOf s) ≡ b
 unfolding IsForeign
-whole s x i = i (s .horizons)
+judged s x b i e = sym (i (s .horizons)) ∙ e

@@ -1,6 +1,6 @@
 -- What each return of a read gives.
 use mathlib.Core.Path.{_≡_, refl, sym, ap, _∙_}
-use mathlib.Core.Bool.{Bool, true, false}
+use mathlib.Core.Bool.{true, false}
 use Prim.Native.Nat.{ℕ, _*_, _≤_}
 use native.Mathlib.Omega.{arith}
 use lib.ListN.{length}
@@ -32,34 +32,34 @@ read-passed : (s : State) (c : R.Counters) (a : A.Reading) → foreign s ≡ fal
 unfolding read unless if_then_else_
 read-passed s c a f = rw f
 
-module _ (s : Runtime) (x : Bool) (i : x ≡ foreign (viewOf s)) where
-  module _ (c : Counters) (e : x ≡ true) where
-    alien : (a : A.Reading) → refuse (viewOf s) (countersOf c) A.ForeignState ≡ read (viewOf s) (countersOf c) a
-    alien a = read-11 (viewOf s) (countersOf c) a (sym i ∙ e)
+module _ (s : Runtime) where
+  module _ (alien : foreign (viewOf s) ≡ true) (c : Counters) where
+    refused : (a : A.Reading) → refuse (viewOf s) (countersOf c) A.ForeignState ≡ read (viewOf s) (countersOf c) a
+    refused a = read-11 (viewOf s) (countersOf c) a alien
 
     pub gvt-foreign : Reads readGvt s c P.ForeignState
     unfolding readGvt
-    gvt-foreign = record { gives = alien _ }
+    gvt-foreign = record { gives = refused _ }
 
     pub counters-foreign : Reads readCounters s c P.ForeignState
     unfolding readCounters
-    counters-foreign = record { gives = alien _ }
+    counters-foreign = record { gives = refused _ }
 
     pub pending-foreign : Reads readPending s c P.ForeignState
     unfolding readPending
-    pending-foreign = record { gives = alien _ }
+    pending-foreign = record { gives = refused _ }
 
     pub earliest-foreign : Reads readEarliest s c P.ForeignState
     unfolding readEarliest
-    earliest-foreign = record { gives = alien _ }
+    earliest-foreign = record { gives = refused _ }
 
-  module _ (e : x ≡ false) where
+  module _ (passes : foreign (viewOf s) ≡ false) where
     pub can-pass : length (s .pending) ≡ 4096 → 8 * s .head .pending ≤ length (s .pending)
-    can-pass l = omega (arith, few-pending (s .head) (s .edges) (s .pending) (s .horizons) (s .batch) (sym i ∙ e))
+    can-pass l = omega (arith, few-pending (s .head) (s .edges) (s .pending) (s .horizons) (s .batch) passes)
 
     module _ (c : Counters) where
       passed : (a b : A.Reading) → a ≡ b → out (A.Read a) (viewOf s) (countersOf c) ≡ read (viewOf s) (countersOf c) b
-      passed a b q = ap (λ (r : A.Reading). out (A.Read r) (viewOf s) (countersOf c)) q ∙ read-passed (viewOf s) (countersOf c) b (sym i ∙ e)
+      passed a b q = ap (λ (r : A.Reading). out (A.Read r) (viewOf s) (countersOf c)) q ∙ read-passed (viewOf s) (countersOf c) b passes
 
       pub gvt-read : Reads readGvt s c (P.Gvt (s .head .gvt))
       unfolding readGvt

@@ -1,6 +1,6 @@
 -- What each return of a call on a runtime gives.
-use mathlib.Core.Path.{_≡_, refl, sym, _∙_}
-use mathlib.Core.Bool.{Bool, true, false}
+use mathlib.Core.Path.{_≡_, refl, sym}
+use mathlib.Core.Bool.{true, false}
 use mathlib.Core.List.{List}
 use Prim.Native.Nat.{ℕ, _*_, _≤_}
 use native.Mathlib.Omega.{arith}
@@ -43,9 +43,6 @@ row-11 s c (Begin h b) f = rw f
 row-11 s c Step f = rw f
 row-11 s c (HandBack mask xs) f = rw f
 
-pub judged : (s : Runtime) (x : Bool) → x ≡ foreign (viewOf s) → x ≡ true → foreign (viewOf s) ≡ true
-judged s x i e = sym i ∙ e
-
 pub carries-foreign : (s : Runtime) (c : Counters) → foreign (viewOf s) ≡ true → (k : Call) → Carries k s c P.ForeignState s c
 carries-foreign s c f k = record { gives = sym (row-11 (viewOf s) (countersOf c) k f); kept = λ _. (refl, refl) }
 
@@ -53,10 +50,7 @@ abbrev packed : List ℕ → List ℕ → List ℕ → List ℕ → Head → Run
 packed E Q Z B h = record { edges = E; pending = Q; horizons = Z; batch = B; head = h }
 
 -- Where 11 lets the state pass.
-module _ (s : Runtime) (x : Bool) (i : x ≡ foreign (viewOf s)) (e : x ≡ false) where
-  passes : foreign (viewOf s) ≡ false
-  passes = sym i ∙ e
-
+module _ (s : Runtime) (passes : foreign (viewOf s) ≡ false) where
   pub can-look : length (s .edges) ≡ 2048 → 4 * s .head .edges ≤ length (s .edges)
   can-look l = omega (arith, few-edges (s .head) (s .edges) (s .pending) (s .horizons) (s .batch) passes)
 

@@ -1,6 +1,6 @@
 use borrow.Author.Needs.{needs}
-use Rattle.foreign.proofs.Grouped.{whole}
-use Rattle.runtime.proofs.Carrying.{judged, carries-begin}
+use Rattle.foreign.proofs.Grouped.{judged}
+use Rattle.runtime.proofs.Carrying.{carries-begin}
 use Rattle.runtime.proofs.begin.Statement.{statement}
 use Rattle.runtime.proofs.begin.Tie as tie
 
@@ -8,7 +8,7 @@ is-foreign-requires : tie.Need-is-foreign-requires
 is-foreign-requires c κs = search needs
 
 foreign-state-requires : tie.Need-foreign-state-requires
-foreign-state-requires c κs = search (judged, whole) depth 1
+foreign-state-requires c κs = search judged depth 1
 
 returns : tie.Need-returns
 returns c = c .foreign-state .ensures _
@@ -17,7 +17,7 @@ begin-requires : tie.Need-begin-requires
 begin-requires c κs = search needs
 
 returns-2 : tie.Need-returns-2
-returns-2 c = search (carries-begin, whole) depth 2
+returns-2 c = carries-begin _ (search judged depth 1) _ _ _ _ (search depth 0)
 
 pub begin-spec : {M : Type 1} → statement M
 begin-spec =

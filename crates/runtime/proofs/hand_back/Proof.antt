@@ -1,6 +1,6 @@
 use borrow.Author.Needs.{needs}
-use Rattle.foreign.proofs.Grouped.{whole}
-use Rattle.runtime.proofs.Carrying.{judged, can-lend, carries-back}
+use Rattle.foreign.proofs.Grouped.{judged}
+use Rattle.runtime.proofs.Carrying.{can-lend, carries-back}
 use Rattle.runtime.proofs.hand_back.Statement.{statement}
 use Rattle.runtime.proofs.hand_back.Tie as tie
 
@@ -8,7 +8,7 @@ is-foreign-requires : tie.Need-is-foreign-requires
 is-foreign-requires c κs = search needs
 
 foreign-state-requires : tie.Need-foreign-state-requires
-foreign-state-requires c κs = search (judged, whole) depth 1
+foreign-state-requires c κs = search judged depth 1
 
 returns : tie.Need-returns
 returns c = c .foreign-state .ensures _
@@ -23,10 +23,10 @@ slice-aggregate-hand-back-3 : tie.Need-slice-aggregate-hand-back-3
 slice-aggregate-hand-back-3 c = search needs
 
 hand-back-requires : tie.Need-hand-back-requires
-hand-back-requires c κs = search (can-lend, whole, needs)
+hand-back-requires c κs = search (can-lend, judged, needs)
 
 returns-2 : tie.Need-returns-2
-returns-2 c = search carries-back depth 1
+returns-2 c = carries-back _ _ _ _ _ _ _ _ (search depth 0)
 
 pub hand-back-spec : {M : Type 1} → statement M
 hand-back-spec =

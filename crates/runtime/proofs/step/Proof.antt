@@ -1,6 +1,6 @@
 use borrow.Author.Needs.{needs}
-use Rattle.foreign.proofs.Grouped.{whole}
-use Rattle.runtime.proofs.Carrying.{judged, can-lend, carries-step}
+use Rattle.foreign.proofs.Grouped.{judged}
+use Rattle.runtime.proofs.Carrying.{can-lend, carries-step}
 use Rattle.runtime.proofs.step.Statement.{statement}
 use Rattle.runtime.proofs.step.Tie as tie
 
@@ -8,7 +8,7 @@ is-foreign-requires : tie.Need-is-foreign-requires
 is-foreign-requires c κs = search needs
 
 foreign-state-requires : tie.Need-foreign-state-requires
-foreign-state-requires c κs = search (judged, whole) depth 1
+foreign-state-requires c κs = search judged depth 1
 
 returns : tie.Need-returns
 returns c = c .foreign-state .ensures _
@@ -26,10 +26,10 @@ slice-aggregate-step-4 : tie.Need-slice-aggregate-step-4
 slice-aggregate-step-4 c = search needs
 
 step-requires : tie.Need-step-requires
-step-requires c κs = search (can-lend, whole, needs)
+step-requires c κs = search (can-lend, judged, needs)
 
 returns-2 : tie.Need-returns-2
-returns-2 c = search carries-step depth 1
+returns-2 c = carries-step _ _ _ _ _ _ _ (search depth 0)
 
 pub step-spec : {M : Type 1} → statement M
 step-spec =
