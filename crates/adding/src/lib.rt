@@ -1,4 +1,4 @@
-// The core of add initial: what it does of a state that 11 let pass.
+// The core of add initial: what it does with a state that 11 let pass.
 use ids::wide;
 use records::Record;
 use starting::Headed;
@@ -19,7 +19,7 @@ const MOST_PAYLOAD: u64 = 16;
 
 const MOST_PENDING: usize = 512;
 
-// The largest sequence number that is still a next one.
+// The largest next sequence number: no event gets it, since none would follow.
 const MOST: u64 = 18446744073709551615;
 
 // The message as a pending record with the sequence number `seq`.

@@ -19,8 +19,7 @@ module _ (w : List ℕ) (n i : ℕ) (l : i < n) where
     emitter = getD-take (8 * n) w (8 * i) 0 (omega arith) k;
     src = word 1 (omega arith) k;
     dst = word 2 (omega arith) k;
-    hi = word 3 (omega arith) k;
-    lo = word 4 (omega arith) k;
+    time = record { hi = word 3 (omega arith) k; lo = word 4 (omega arith) k };
     len = word 5 (omega arith) k;
     p0 = word 6 (omega arith) k;
     p1 = word 7 (omega arith) k;

@@ -1,5 +1,5 @@
-// Hand back in three parts, for a host whose reply is no flat words: a desk is opened, each emission
-// is sifted on it, and it is closed.
+// Hand back in three parts, for a host whose reply does not come as flat words: a desk is opened, each
+// emission is sifted on it, and it is closed.
 use finishing::is_accepted;
 use foreign::is_foreign;
 use runtime::Called;

@@ -3,7 +3,7 @@
 // These are leaves: each asks that the words it touches are there.
 use records::Record;
 ghost use mathlib.Core.Path.{_≡_};
-ghost use Prim.Native.Nat.{_*_, _<_, _≤_};
+ghost use Prim.Native.Nat.{_*_, _≤_};
 ghost use lib.ListN.{length};
 ghost use Rattle.rules.specs.Base.{rising};
 ghost use Rattle.rules.specs.Foreign.{byProcess};

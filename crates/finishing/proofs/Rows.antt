@@ -8,7 +8,6 @@ use lib.Dec.{eqb}
 use borrow.Author.Tests.{lt-ltb, le-ltb, eq-eqb, ne-eqb, eqb-true}
 use Rattle.rules.specs.Base.{if_then_else_, any}
 use Rattle.rules.specs.State.{Event, State}
-use Rattle.rules.specs.Answers as A
 use Rattle.rules.specs.Rows.{Row, unless}
 use Rattle.rules.specs.Pending.{firstOf, firstTick, tickOr}
 use Rattle.rules.specs.HandBack.{Emission, failed, inBatch, processRows}

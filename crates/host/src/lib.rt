@@ -1,6 +1,7 @@
 // The calls as a host makes them: the state by value, "the counters, a small record lent and counted
 // up where it is". Each takes the counters out of the loan, makes the call of `runtime` or `reads` by
-// value, and stores the counters that it gives.
+// value, and stores the counters that it gives; hand back, whose reply is a slice of records, goes by
+// a desk instead.
 use building::BuildAnswer;
 use reads::ReadAnswer;
 use replies::Emission;

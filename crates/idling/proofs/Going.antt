@@ -9,7 +9,7 @@ use Rattle.records.specs.Records.{edgesOf, eventsOf}
 use Rattle.rules.specs.State.{closed}
 use Rattle.rules.specs.Answers as A
 use Rattle.rules.specs.Rows.{out}
-use Rattle.rules.specs.Step.{spent, rose, countAdvance}
+use Rattle.rules.specs.Step.{spent, countAdvance}
 use Rattle.rules.proofs.Outcomes.{run-spent, run-rise, run-finish}
 use Rattle.rules.proofs.Shape.{shaped}
 use Rattle.frontiers.specs.Tables.{Fronts, Firsts}

@@ -52,21 +52,21 @@ local-at : (Z : List ℕ) (n d : ℕ) → d < n → getD (horizonsOf n Z) d 0 �
 local-at Z n d h = let e : 0 + d ≡ d = omega arith in rw e at (tab-at (λ (i : ℕ). tickAt Z (2 * i)) 0 n d h)
 
 -- 32 and 33.
-module _ (Z : List ℕ) (e : Emission) (time least : SimTime) (x : Bool) (early : x ≡ ltb (halves (e .hi) (e .lo)) (value least)) where
+module _ (Z : List ℕ) (e : Emission) (time least : SimTime) (x : Bool) (early : x ≡ ltb (value (e .time)) (value least)) where
   abbrev rows : Verdict → Type 0
   rows v = Judges (tickRows (emissionOf e) (value time) (value least) (tickAt Z (2 * e .dst))) v
 
-  pub violation : x ≡ true → rows (refusing (P.OutboundLookaheadViolation (e .emitter) time (record { hi = e .hi; lo = e .lo }) least))
+  pub violation : x ≡ true → rows (refusing (P.OutboundLookaheadViolation (e .emitter) time (e .time) least))
   unfolding tickRows
   violation t = struck _ _ _ (sym early ∙ t) (λ es. refl)
 
-  module _ (t : x ≡ false) (local : SimTime) (l : value local ≡ tickAt Z (2 * e .dst)) (y : Bool) (late : y ≡ ltb (halves (e .hi) (e .lo)) (value local)) where
-    late-as : (u : Bool) → y ≡ u → ltb (halves (e .hi) (e .lo)) (tickAt Z (2 * e .dst)) ≡ u
-    late-as u k = ap (ltb (halves (e .hi) (e .lo))) (sym l) ∙ sym late ∙ k
+  module _ (t : x ≡ false) (local : SimTime) (l : value local ≡ tickAt Z (2 * e .dst)) (y : Bool) (late : y ≡ ltb (value (e .time)) (value local)) where
+    late-as : (u : Bool) → y ≡ u → ltb (value (e .time)) (tickAt Z (2 * e .dst)) ≡ u
+    late-as u k = ap (ltb (value (e .time))) (sym l) ∙ sym late ∙ k
 
-    pub straggler : y ≡ true → rows (refusing (P.Straggler (e .dst) (record { hi = e .hi; lo = e .lo }) local))
+    pub straggler : y ≡ true → rows (refusing (P.Straggler (e .dst) (e .time) local))
     unfolding tickRows
-    straggler u = go-by _ _ _ (sym early ∙ t) (struck _ _ _ (late-as true u) (λ es. ap (λ (k : ℕ). A.Refused (A.Straggler (e .dst) (halves (e .hi) (e .lo)) k)) l))
+    straggler u = go-by _ _ _ (sym early ∙ t) (struck _ _ _ (late-as true u) (λ es. ap (λ (k : ℕ). A.Refused (A.Straggler (e .dst) (value (e .time)) k)) l))
 
     pub in-time : y ≡ false → rows sound
     unfolding tickRows

@@ -14,7 +14,7 @@ ghost use Rattle.rules.specs.HandBack.{minimum};
 ghost use Rattle.replies.specs.Emissions.{emissionOf};
 ghost use Rattle.judging.specs.Judges.{Judges, tickRows, Judgeable, JudgesOne};
 
-// Whether nothing is refused, and else with what.
+// Whether nothing is refused; where something is, `answer` is the refusal.
 pub struct Verdict {
     pub sound: bool,
     pub answer: Answer,
@@ -35,7 +35,7 @@ fn judge_tick(horizons: &[u64], e: Emission, time: SimTime, least: SimTime) -> V
     requires { ⌜ (length (now horizons) ≡ 128) × (e .dst < 64) ⌝ }
     ensures { λ r. ⌜ Judges (tickRows (emissionOf e) (value time) (value least) (tickAt (now (horizons .entry)) (2 * e .dst))) r ⌝ }
 {
-    let tick = SimTime { hi: e.hi, lo: e.lo };
+    let tick = e.time;
     let local = words::tick_in(horizons, 2 * e.dst as usize);
     if tick.lt(least) {
         return Verdict {

@@ -76,9 +76,6 @@ module _ (P R Z B T : List ℕ) (s : Sizes P R Z B T) where
   long-four : length four ≡ 4800
   long-four = omega (arith, length-append three B, long-three, s .batch-words)
 
-  pub long : length (desk P R Z B T) ≡ 4864
-  long = omega (arith, length-append four T, long-four, s .place-words)
-
   pub places-there : placesIn (desk P R Z B T) ≡ T
   places-there = last four T 4800 64 long-four (s .place-words)
 

@@ -1,5 +1,5 @@
 // The lines of docs/CALLS.md: what a call answered, and everything that document 01 compares after
-// it. A count is one of a state's, which may be any: no more is printed than an array has.
+// it. A state's counts may be anything: no more is printed than an array holds.
 use building::BuildAnswer;
 use output::ROOM;
 use reads::ReadAnswer;
@@ -24,7 +24,7 @@ const EVENT: usize = 8;
 // The digits of a word of payload, two for each byte.
 const DIGITS: usize = 16;
 
-// Above every number of a refusal, those of the other words that a line begins with.
+// Codes of the other first words of a line, above every number of a refusal.
 const ACCEPTED: u64 = 100;
 
 const BATCH: u64 = 101;

@@ -17,10 +17,11 @@ ghost use Rattle.queueing.specs.Queued.{Queueable, Queued};
 pub fn record_of(e: Emission, seq: u64) -> Record
     ensures { λ r. ⌜ eventOf r ≡ numbered (emissionOf e .message) seq ⌝ }
 {
+    let time = e.time;
     Record {
         dst: e.dst,
-        hi: e.hi,
-        lo: e.lo,
+        hi: time.hi,
+        lo: time.lo,
         src: e.src,
         seq: seq,
         len: e.len,

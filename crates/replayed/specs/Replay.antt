@@ -6,7 +6,7 @@ use Rattle.rules.specs.Base.{Maybe, none, some}
 use Rattle.rules.specs.State.{Message, Event, Edge, Stored, State, Counters, zeros}
 use Rattle.rules.specs.Answers.{Entity, Answer}
 use Rattle.rules.specs.Rows.{Out}
-use Rattle.rules.specs.Build.{Setup, Made, build}
+use Rattle.rules.specs.Build.{Setup, build}
 use Rattle.rules.specs.HandBack.{Emission}
 use Rattle.rules.specs.Reads.{readGvt, readCounters, readPending, readEarliest}
 use Rattle.rules.specs.Calls.{Call, rule}

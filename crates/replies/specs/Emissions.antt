@@ -2,17 +2,17 @@
 use mathlib.Core.List.{List}
 use Prim.Native.Nat.{ℕ, _+_, _*_}
 use lib.ListN.{getD}
-use Rattle.types.specs.Value.{halves}
+use Rattle.types.specs.Value.{value}
 use Rattle.words.specs.Words.{tab}
 use Rattle.rules.specs.HandBack as rules
 use Rattle.records.specs.Records.{payloadOf}
 use Rattle.replies.specs.declared.Emission.{Emission}
 
--- The emission of eight words.
+-- The emission as the rules have it.
 abbrev pub emissionOf : Emission → rules.Emission
 emissionOf e = record {
   emitter = e .emitter;
-  message = record { source = e .src; destination = e .dst; tick = halves (e .hi) (e .lo); payload = payloadOf (e .len) (e .p0) (e .p1) };
+  message = record { source = e .src; destination = e .dst; tick = value (e .time); payload = payloadOf (e .len) (e .p0) (e .p1) };
 }
 
 -- The eight words from `at` on.
@@ -21,8 +21,7 @@ emissionIn w at = record {
   emitter = getD w at 0;
   src = getD w (at + 1) 0;
   dst = getD w (at + 2) 0;
-  hi = getD w (at + 3) 0;
-  lo = getD w (at + 4) 0;
+  time = record { hi = getD w (at + 3) 0; lo = getD w (at + 4) 0 };
   len = getD w (at + 5) 0;
   p0 = getD w (at + 6) 0;
   p1 = getD w (at + 7) 0;

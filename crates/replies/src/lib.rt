@@ -3,6 +3,7 @@
 //
 // The batch is judged by a table of 64 places, so that each emission is one lookup. An emitter may be
 // any word. These are leaves: each asks that the words it touches are there.
+use types::SimTime;
 ghost use mathlib.Core.Path.{_≡_};
 ghost use Prim.Native.Nat.{_+_, _*_, _<_, _≤_};
 ghost use lib.ListN.{length};
@@ -11,13 +12,12 @@ ghost use Rattle.records.specs.Records.{eventsOf, Owners};
 ghost use Rattle.replies.specs.Emissions.{emissionOf, emissionIn, emissionsOf};
 ghost use Rattle.replies.specs.Replies.{Places, Strange, StrangeMask, IllFormed, Malformed};
 
-// An emission's eight words.
+// An emission. Its ids are whole words, judged as they come; its tick is no id.
 pub struct Emission {
     pub emitter: u64,
     pub src: u64,
     pub dst: u64,
-    pub hi: u64,
-    pub lo: u64,
+    pub time: SimTime,
     pub len: u64,
     pub p0: u64,
     pub p1: u64,
@@ -32,8 +32,10 @@ pub fn emission_in(w: &[u64], at: usize) -> Emission
         emitter: w[at],
         src: w[at + 1],
         dst: w[at + 2],
-        hi: w[at + 3],
-        lo: w[at + 4],
+        time: SimTime {
+            hi: w[at + 3],
+            lo: w[at + 4],
+        },
         len: w[at + 5],
         p0: w[at + 6],
         p1: w[at + 7],

@@ -26,7 +26,7 @@ abbrev pub size : ℕ
 size = 64
 
 abbrev pub none : Emission
-none = record { emitter = 0; src = 0; dst = 0; hi = 0; lo = 0; len = 0; p0 = 0; p1 = 0 }
+none = record { emitter = 0; src = 0; dst = 0; time = record { hi = 0; lo = 0 }; len = 0; p0 = 0; p1 = 0 }
 
 pub below-or-not : {l k : ℕ} → Dec (l < k) → (l < k) ⊎ (k ≤ l)
 below-or-not (yes h) = inl h

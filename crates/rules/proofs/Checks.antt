@@ -43,9 +43,6 @@ unfolding emissionRows if_then_else_
 checked-emissions s b [] i = tt
 checked-emissions s b (x ∷ xs) i = go (eqb (x .emitter) (b .destination)) refl i (checked-emissions s b xs)
   where
-    rows : List Row
-    rows = messageRows (s .n) (route (s .edges)) (s .lookahead) (x .emitter) (b .tick) (x .message)
-
     go : (t : Bool) → eqb (x .emitter) (b .destination) ≡ t → Passed (if t then (messageRows (s .n) (route (s .edges)) (s .lookahead) (x .emitter) (b .tick) (x .message) ++ (stragglerRow s (x .message) ∷ emissionRows s b xs)) else emissionRows s b xs)
         → (Passed (emissionRows s b xs) → All (Checked s b) xs) → All (Checked s b) (x ∷ xs)
     go true e i ih = ((λ _. (routed s (x .emitter) (b .tick) (x .message) (i .0, (i .1 .0, (i .1 .1 .0, (i .1 .1 .1 .0, (i .1 .1 .1 .1 .0, tt))))), ltb-false _ _ (i .1 .1 .1 .1 .1 .0))), ih (i .1 .1 .1 .1 .1 .1))

@@ -8,7 +8,6 @@ use lib.Dec.{eqb}
 use lib.ListN.{length}
 use Rattle.rules.specs.Base.{if_then_else_, count}
 use Rattle.rules.specs.State.{Event}
-use Rattle.rules.specs.Answers
 use Rattle.rules.specs.Answers.{Answer, Batch, number}
 use Rattle.rules.specs.HandBack.{Emission, isRemote}
 use Rattle.rules.specs.Calls.{Call}

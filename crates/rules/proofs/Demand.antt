@@ -12,7 +12,6 @@ use Rattle.rules.specs.Rows.{unless, Out}
 use Rattle.rules.specs.Build.{Setup, built, build}
 use Rattle.rules.specs.Foreign.{foreign}
 use Rattle.rules.specs.Refresh.{refreshed}
-use Rattle.rules.specs.HandBack.{handled}
 use Rattle.rules.specs.Reads.{read, readCounters, readPending}
 use Rattle.rules.specs.Calls.{Call, AddInitial, Begin, Step, HandBack, rule}
 use Rattle.rules.specs.History

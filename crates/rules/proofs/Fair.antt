@@ -1,4 +1,4 @@
--- The invariant behind order (ARGUMENTS: a to e): what is handed out, pending, in hand, and how bounds and local horizons hold it.
+-- The invariant behind order: what is handed out, pending, in hand, and how bounds and local horizons hold it.
 use mathlib.Core.Path.{_≡_, refl, ap}
 use mathlib.Core.List.{List, [], _∷_}
 use Prim.Native.Nat.{ℕ, zero, suc, _+_, _≤_, _<_, max}

@@ -5,8 +5,7 @@ use mathlib.Core.List.{List, []}
 use Prim.Native.Nat.{ℕ, suc, _-_}
 use native.Mathlib.Omega.{arith}
 use Rattle.rules.specs.Base.{upTo}
-use Rattle.rules.specs.State.{Event, Message, stored, State, Counters, numbered, withPending, withRun, withBatch, closed, poison}
-use Rattle.rules.specs.Answers
+use Rattle.rules.specs.State.{Event, Message, State, Counters, numbered, withPending, withRun, withBatch, closed, poison}
 use Rattle.rules.specs.Answers.{Answer, Accepted, Batch, Advanced, Finished, Committed, Refused, Refusal}
 use Rattle.rules.specs.Rows.{Row, Out, out}
 use Rattle.rules.specs.Pending.{insert}

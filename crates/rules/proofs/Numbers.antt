@@ -8,7 +8,6 @@ use lib.Dec.{ltb, eqb}
 use lib.ListN.{getD}
 use borrow.Author.Tests.{eqb-true, eqb-false, ltb-true}
 use Rattle.rules.specs.State.{Event, Message, Stored, unset, stored, State, Counters}
-use Rattle.rules.specs.Answers
 use Rattle.rules.specs.Answers.{Refusal, refusalNumber, number}
 use Rattle.rules.specs.Rows.{Row, Out, refuse}
 use Rattle.rules.specs.Pending.{route}

@@ -53,9 +53,6 @@ unfolding eventsAt if_then_else_
 at-all P p [] i = tt
 at-all P p (e ∷ g) i = go (eqb (e .destination) p) refl (at-all P p g (i .1))
   where
-    Q : Event → Type 0
-    Q d = (d .destination ≡ p) × P d
-
     go : (t : Bool) → eqb (e .destination) p ≡ t → All (λ (d : Event). (d .destination ≡ p) × P d) (eventsAt p g) → All (λ (d : Event). (d .destination ≡ p) × P d) (if t then e ∷ eventsAt p g else eventsAt p g)
     go true h r = ((eqb-true (e .destination) p h, i .0), r)
     go false h r = r

@@ -20,7 +20,7 @@ abbrev pub Never : ℕ → List Entry → Type 0
 Never k [] = Unit {0}
 Never k (e ∷ es) = (number (e .answer) ≡ k → ⊥) × Never k es
 
--- The counts as the counters read them: each, or 2^64 - 1 where it is larger.
+-- The counts as the counters read them: each, or 2^64 - 1 where it is larger. A batch has at most 64 events, so the worker count never is.
 abbrev pub counts : List Entry → Reading
 counts es =
     Counted
@@ -49,5 +49,5 @@ pub record Demanded (a : Setup) (y : History) : Type 0 where
   pub counters : readCounters (y .now) (y .counters) .answer ≡ Read (counts (y .entries))
   -- No call of the list is refused with 11.
   pub no-foreign : Never 11 (y .entries)
-  -- Beyond document 01, for A.5: nor with 33.
+  -- Beyond document 01, for request A.5 of document 02: nor with 33.
   pub no-straggler : Never 33 (y .entries)

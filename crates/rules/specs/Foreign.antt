@@ -8,7 +8,7 @@ use Rattle.rules.specs.Base.{any, anyOf, nonEmpty, rising}
 use Rattle.rules.specs.State.{Event, Edge, Stored, unset, stored, State, top, most-processes, most-edges, most-pending, most-payload}
 use Rattle.rules.specs.Pending.{joins, before}
 
--- "a count or length over its limit": a batch has at most one event of each process.
+-- "a count or length over its limit". 01 gives a batch no limit of its own: at most one event of each process, so 64.
 abbrev pub longEvent : Event → Bool
 longEvent e = ltb most-payload (length (e .payload))
 

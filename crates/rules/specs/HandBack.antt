@@ -45,7 +45,7 @@ malformed batch mask xs =
 unfoldable pub minimum : ℕ → ℕ → ℕ → Message → ℕ
 minimum L p t m = if eqb (m .destination) p then t else t + L
 
--- 28 to 32 of the emission m of the process p, whose event has tick t, in a runtime of n processes with the routes given.
+-- 28 to 32 of the emission m of the process p, whose event has tick t, in a runtime of n processes with the routes given. To oneself the minimum is a tick, so 31 does not hold.
 abbrev pub messageRows : ℕ → (ℕ → ℕ → Bool) → ℕ → ℕ → ℕ → Message → List Row
 messageRows n routes L p t m =
     (not (eqb (m .source) p) ⇒ Answers.OutboundSourceMismatch p (m .source))

@@ -58,7 +58,7 @@ pub record RefusingCalls : Type 0 where
   -- "payload above 16"
   pub r17 : Gives (λ c. addInitial fresh c (loaded-message 0 1 17)) 17 (17 ∷ []) fresh
   pub r17-not : Gives (λ c. addInitial fresh c (loaded-message 0 1 16)) 0 [] (withPending fresh (record { source = 0; destination = 1; tick = 2; sequence = 0; payload = times 16 0 } ∷ []) 1)
-  -- "over 512 pending": "The 513th initial: 18."; 512 adds were accepted (Samples, full-reached).
+  -- "over 512 pending": "The 513th initial: 18."; 512 adds were accepted (crates/limits, `full-reached`).
   pub r18 : Gives (λ c. addInitial full c (message 0 1 2)) 18 [] full
   -- "next sequence number would pass 2^64 - 1"
   pub r19 : Gives (λ c. addInitial numbered-out c (message 0 1 2)) 19 [] numbered-out

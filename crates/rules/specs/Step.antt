@@ -13,7 +13,7 @@ use Rattle.rules.specs.Frontiers.{safe, eligible, anyEligible}
 use Rattle.rules.specs.Foreign.{foreign}
 use Rattle.rules.specs.Refresh.{raised, refreshed}
 
--- "in id order, take the first eligible event of each process while used + taken < budget": `room` is budget - used - taken.
+-- "in id order, take the first eligible event of each process while used + taken < budget": `room` is budget - used - taken. Without room the walk ends: no later process could be taken either.
 pub record Taken : Type 0 where
   pub events : List Event
   pub left : List Event

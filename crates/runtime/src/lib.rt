@@ -108,7 +108,7 @@ pub fn build<'a>(
     }
 }
 
-// 11 refuses every call, with the state as given, and so the counters.
+// 11 refuses any call: state and counters come back as given.
 fn foreign_state(state: Runtime, counters: Counters) -> Called
     requires { ⌜ foreign (viewOf state) ≡ true ⌝ }
     ensures { λ r. ⌜ ((k : Call) → Carries k state counters (r .answer) (r .state) (r .counters)) ⌝ }

@@ -23,8 +23,8 @@ const MOST: u64 = 18446744073709551615;
 
 const MOST_PENDING: usize = 512;
 
-// How far a reply has been taken. While it is going on, `verdict` is what 28 to 33 say so far; else it
-// is with what the call is refused, the state as given. `failed` is the first process in hand that
+// How far a reply has been taken. While `going`, `verdict` is what 28 to 33 say so far; after that its
+// answer refuses the whole call, and the state stays as given. `failed` is the first process in hand that
 // failed, or 64: 27 stands between the emissions of those before it and of those behind it.
 pub struct Sifted {
     pub going: bool,

@@ -1,4 +1,4 @@
-// The core of begin: what it does of a state that 11 let pass.
+// The core of begin: what it does with a state that 11 let pass.
 use state::Answer;
 use state::Head;
 use types::SimTime;

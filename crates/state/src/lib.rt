@@ -6,7 +6,9 @@ use types::SimTime;
 ghost use mathlib.Core.Path.{_≡_};
 ghost use Rattle.rules.specs.State.{raise};
 
-// The small fields of a runtime; `edges`, `pending` and `batch` are how many there are.
+// The small fields of a runtime. `edges`, `pending` and `batch` are how many there are; `next` is the
+// next sequence number; `stored` says whether `horizon` and `budget` are set; `initial`, that initial
+// events are open; `running`, that a run is open.
 pub struct Head {
     pub n: usize,
     pub lookahead: SimDuration,
@@ -24,7 +26,8 @@ pub struct Head {
     pub poisoned: bool,
 }
 
-// A runtime by value. The head comes last, so that a search for a fact comes to the arrays first.
+// A runtime by value. The head comes last: a search for a fact enters only so many records, and has to
+// come to the arrays.
 pub struct Runtime {
     pub edges: [u64; 2048],
     pub pending: [u64; 4096],

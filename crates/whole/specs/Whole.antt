@@ -1,4 +1,5 @@
 -- Demand 3 of the functions themselves: what is known of each call is what the check proves of its function.
+-- Of each function F rattle makes `F.Reads.Learnt`, what a caller learns from the `ensures`; `F.clauses`, the contract itself; and `F.Statement.statement`, what "fn F: proved" proves. `RefT` is a reference, with the value that it refers to; the lifetimes κs play no part here.
 use mathlib.Core.Path.{_≡_}
 use mathlib.Core.List.{List, [], _∷_, map}
 use Prim.Native.Nat.{ℕ, _/_}
