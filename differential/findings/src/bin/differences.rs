@@ -119,6 +119,26 @@ fn ids_of_a_mismatch() {
     assert_eq!(refused, Some(expected));
 }
 
+/// D6: the history of GVT is 0, and each higher value.
+fn history_of_gvt() {
+    let mut runtime = runtime(&[&[1], &[0]], false);
+    runtime
+        .run_until_with_budget(SimTime::from_ticks(1), 1)
+        .unwrap();
+    assert_eq!(
+        runtime.report().gvt_history,
+        [SimTime::ZERO, SimTime::from_ticks(1)]
+    );
+}
+
+/// D6: a plan has segments, and tells the owner of an entity.
+fn segments_and_owners() {
+    let entity = EntityId::new(0, 0);
+    let plan = PartitionPlan::from_entities(1, SimDuration::from_ticks(1), vec![entity]).unwrap();
+    assert_eq!(plan.segments()[0].entities, [entity]);
+    assert_eq!(plan.owner_of(entity), Some(LpId(0)));
+}
+
 fn main() {
     no_null_message_after_an_event();
     panic_in_a_handler();
@@ -127,5 +147,7 @@ fn main() {
     no_limit_of_events();
     no_limit_of_entities();
     ids_of_a_mismatch();
-    println!("differential: the Rust does what docs/DIFFERENCES.md says of it, 8 inputs");
+    history_of_gvt();
+    segments_and_owners();
+    println!("differential: the Rust does what docs/DIFFERENCES.md says of it, 10 inputs");
 }
