@@ -1,5 +1,5 @@
 #!/usr/bin/env python3
-"""Writes a sample of the stored answers as equations about the rules: crates/replayed/specs/Lists*.antt.
+"""Writes a sample of the stored answers as equations about the rules: crates/rules_replayed/specs/Lists*.antt.
 
   replayed.py [--check]      --check: only say whether the files are what would be written
 
@@ -10,7 +10,7 @@ where origin.txt has an r; where the Rust has none (origin.txt has a 0) it is th
 import os, re, struct, sys
 
 HERE = os.path.dirname(os.path.abspath(__file__))
-OUT = os.path.join(HERE, '..', 'crates', 'replayed', 'specs')
+OUT = os.path.join(HERE, '..', 'crates', 'rules_replayed', 'specs')
 LISTS, PER_FILE = 200, 40          # how many lists, and how many to a file
 LARGEST = 3000                     # characters of answers that a list may have
 LONGEST, HUGE = 64, '?'            # bytes that a payload may have, and what stands for one with more: such a list is passed over
@@ -182,7 +182,7 @@ use Rattle.rules.specs.Answers.{Gvt, Counted, Pending, Earliest, Accepted, Batc
 use Rattle.rules.specs.Plan.{plan}
 use Rattle.rules.specs.Calls.{AddInitial, Begin, Step, HandBack}
 use Rattle.rules.specs.Opened.{all-rules}
-use Rattle.replayed.specs.Replay.{does, asksGvt, asksCounters, asksPending, asksEarliest, lines, setup, msg, emission, event, edge, counters, state, line, refusedBuild, entity, blanks, replaying}
+use Rattle.rules_replayed.specs.Replay.{does, asksGvt, asksCounters, asksPending, asksEarliest, lines, setup, msg, emission, event, edge, counters, state, line, refusedBuild, entity, blanks, replaying}
 '''
 
 def equations(number, item):

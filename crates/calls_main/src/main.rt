@@ -1,22 +1,22 @@
 // Carries out the lists of calls from standard input and prints the answers, both as docs/CALLS.md
 // says. What cannot be decoded ends the input.
-use building::BuildAnswer;
-use input::Next;
+use build::BuildAnswer;
 use libc::STDIN_FILENO;
 use reads::ReadAnswer;
-use runtime::Built;
-use runtime::Called;
+use runtime::BuildResult;
+use runtime::CallResult;
 use state::Answer;
 use state::Counters;
 use state::Message;
 use state::Runtime;
+use text_input::Next;
 use types::LpId;
 use types::SimDuration;
 use types::SimTime;
 ghost use Prim.Native.Nat.{_≤_};
 
 // A list of more things is taken for something that cannot be decoded.
-const MOST: u64 = 4096;
+const MAX_ITEMS: u64 = 4096;
 
 const PLACES: usize = 4096;
 
@@ -75,17 +75,17 @@ fn id_of(word: u64) -> u32 {
 fn read_list(words: &mut [u64], width: usize) -> usize
     requires { ⌜ width ≤ 8 ⌝ }
 {
-    let Next::Word(count) = input::read_word(STDIN_FILENO) else {
+    let Next::Word(count) = text_input::read_word(STDIN_FILENO) else {
         return BROKEN;
     };
-    if MOST < count {
+    if MAX_ITEMS < count {
         return BROKEN;
     }
     let end = width * count as usize;
     if words.len() < end {
         return BROKEN;
     }
-    if input::read_words(STDIN_FILENO, &mut words[..end]) < end {
+    if text_input::read_words(STDIN_FILENO, &mut words[..end]) < end {
         return BROKEN;
     }
     count as usize
@@ -128,10 +128,10 @@ fn message_of(args: [u64; ARGS]) -> Message {
     Message {
         source: LpId(id_of(args[0])),
         destination: LpId(id_of(args[1])),
-        time: SimTime::from_ticks(args[2], args[3]),
+        tick: SimTime::from_ticks(args[2], args[3]),
         len: args[4],
-        p0: args[5],
-        p1: args[6],
+        payload_hi: args[5],
+        payload_lo: args[6],
     }
 }
 
@@ -160,7 +160,7 @@ fn width(tag: u64) -> usize
 fn read_args(tag: u64) -> Call {
     let mut args = [0u64; ARGS];
     let end = width(tag);
-    if input::read_words(STDIN_FILENO, &mut args[..end]) < end {
+    if text_input::read_words(STDIN_FILENO, &mut args[..end]) < end {
         return call_of(NONE, args);
     }
     call_of(tag, args)
@@ -168,18 +168,18 @@ fn read_args(tag: u64) -> Call {
 
 // The next tag. Plan is on no state: it is carried out as it is read.
 fn read_tag() -> u64 {
-    let Next::Word(tag) = input::read_word(STDIN_FILENO) else {
+    let Next::Word(tag) = text_input::read_word(STDIN_FILENO) else {
         return NONE;
     };
     if tag == PLAN {
-        if !planning::carry_out_plan() {
+        if !partition_text::execute_plan() {
             return NONE;
         }
     }
     tag
 }
 
-fn called(state: Runtime, counters: Counters, call: Call, reply: &[u64]) -> Called {
+fn call_runtime(state: Runtime, counters: Counters, call: Call, reply: &[u64]) -> CallResult {
     let tag = call.tag;
     match tag {
         0 => runtime::add_initial(state, counters, call.message),
@@ -199,32 +199,32 @@ fn reading(state: Runtime, counters: Counters, tag: u64) -> ReadAnswer {
 }
 
 // The line of a call is printed.
-fn told(called: Called) -> Session {
+fn print_result(called: CallResult) -> Session {
     let answer = called.answer;
     let state = called.state;
     let counters = called.counters;
-    lines::print_line(answer, state, counters);
+    answer_text::print_line(answer, state, counters);
     Session {
         counters: counters,
         state: state,
     }
 }
 
-fn carry_out(s: Session, call: Call, reply: &[u64]) -> Session {
+fn execute(s: Session, call: Call, reply: &[u64]) -> Session {
     let state = s.state;
     let counters = s.counters;
     if call.tag < FIRST_READ {
-        return told(called(state, counters, call, reply));
+        return print_result(call_runtime(state, counters, call, reply));
     }
     if call.tag < PLAN {
-        lines::print_reading(reading(state, counters, call.tag), state, counters);
+        answer_text::print_read(reading(state, counters, call.tag), state, counters);
     }
     s
 }
 
 // A number of calls, and the calls; whether all could be decoded.
-fn carry_out_calls(state: Runtime, counters: Counters) -> bool {
-    let Next::Word(count) = input::read_word(STDIN_FILENO) else {
+fn execute_calls(state: Runtime, counters: Counters) -> bool {
+    let Next::Word(count) = text_input::read_word(STDIN_FILENO) else {
         return false;
     };
     let mut s = Session {
@@ -242,7 +242,7 @@ fn carry_out_calls(state: Runtime, counters: Counters) -> bool {
         if EMISSION_WORDS < end {
             return false;
         }
-        s = carry_out(s, call, &reply[..end]);
+        s = execute(s, call, &reply[..end]);
         left -= 1;
     }
     true
@@ -251,26 +251,26 @@ fn carry_out_calls(state: Runtime, counters: Counters) -> bool {
 // What a build is given in place of counters: those of an accepted one are its own.
 fn no_counters() -> Counters {
     Counters {
-        handled: 0,
-        emitted: 0,
-        remote: 0,
+        processed_events: 0,
+        emitted_events: 0,
+        remote_events: 0,
         rounds: 0,
-        nulls: 0,
-        workers: 0,
+        null_messages: 0,
+        worker_count: 0,
     }
 }
 
 // Carries out the calls. Those of a refused build are passed over.
-fn carry_out_on(built: Built) -> bool {
+fn execute_on(built: BuildResult) -> bool {
     let answer = built.answer;
     if let BuildAnswer::Accepted = answer {
         let state = built.state;
         let counters = built.counters;
-        lines::print_line(Answer::Accepted, state, counters);
-        return carry_out_calls(state, counters);
+        answer_text::print_line(Answer::Accepted, state, counters);
+        return execute_calls(state, counters);
     }
-    lines::print_refused_build(answer);
-    passing::pass_calls()
+    answer_text::print_refused_build(answer);
+    skip_calls::skip_calls()
 }
 
 // The ids in every `step`-th word go to the front of ids, as many as there is room for.
@@ -321,7 +321,7 @@ fn read_rows(sources: &mut [u32], counts: &mut [u64]) -> usize {
 }
 
 // Reads the destinations, builds, and carries the list out.
-fn carry_out_edges<'a>(
+fn execute_edges<'a>(
     n: u64,
     lookahead: SimDuration,
     ids: &'a [u32],
@@ -334,24 +334,24 @@ fn carry_out_edges<'a>(
         return false;
     }
     let lent = &destinations[..edges];
-    carry_out_on(runtime::build(n, lookahead, ids, sources, counts, lent, no_counters()))
+    execute_on(runtime::build(n, lookahead, ids, sources, counts, lent, no_counters()))
 }
 
 // Reads the rows, and carries the list out.
-fn carry_out_rows<'a>(n: u64, lookahead: SimDuration, ids: &'a [u32]) -> bool {
+fn execute_rows<'a>(n: u64, lookahead: SimDuration, ids: &'a [u32]) -> bool {
     let mut sources = [0u32; PLACES];
     let mut counts = [0u64; PLACES];
     let rows = read_rows(&mut sources, &mut counts);
     if PLACES < rows {
         return false;
     }
-    carry_out_edges(n, lookahead, ids, &sources[..rows], &counts[..rows])
+    execute_edges(n, lookahead, ids, &sources[..rows], &counts[..rows])
 }
 
 // A list of calls; whether all of it could be decoded.
-fn carry_out_list() -> bool {
+fn execute_list() -> bool {
     let mut head = [0u64; 3];
-    if input::read_words(STDIN_FILENO, &mut head) < 3 {
+    if text_input::read_words(STDIN_FILENO, &mut head) < 3 {
         return false;
     }
     let mut ids = [0u32; PLACES];
@@ -360,13 +360,13 @@ fn carry_out_list() -> bool {
         return false;
     }
     let lookahead = SimDuration::from_ticks(head[1], head[2]);
-    carry_out_rows(head[0], lookahead, &ids[..count])
+    execute_rows(head[0], lookahead, &ids[..count])
 }
 
 // Nothing says that an input ends, so the lists are counted down from a number that none has.
 fn main() {
     let mut left = u64::MAX;
-    while 0 < left && carry_out_list() {
+    while 0 < left && execute_list() {
         left -= 1;
     }
 }

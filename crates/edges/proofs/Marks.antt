@@ -7,25 +7,25 @@ use native.Mathlib.Omega.{arith}
 use native.Mathlib.Nat.{one-mul, mod-eq-of-lt}
 use lib.Bits.{bitOr}
 use lib.Dec.{eqb, leb}
-use lib.ListN.{length, getD, set, drop-of-length-le}
+use lib.ListN.{length, getD, set}
 use lib.Pow.{pow-lt}
 use lib.Seq.{getD-set-same, getD-set-other}
 use borrow.Author.Tests.{eq-eqb, eqb-true, eqb-false, leb-false}
-use Rattle.words.specs.Words.{tab, zeroes, cleared}
+use Rattle.words.specs.Words.{tab, zeroes}
 use Rattle.words.proofs.Tab.{tab-step, tab-none, tab-whole}
 use Rattle.records.specs.Records.{edgeAt, edgesOf}
 use Rattle.records.proofs.Placing.{all-at}
 use Rattle.rules.specs.Base.{any}
 use Rattle.rules.specs.State.{Edge}
-use Rattle.rules.specs.Foreign.{strangeEdge}
+use Rattle.rules.specs.Foreign.{unknownIdEdge}
 use Rattle.rules.proofs.Lists.{any-none}
 use Rattle.rules.proofs.Tests.{by-bool, or-left, or-right}
-use Rattle.edges.specs.Routes.{bit, seenIn, Routes, Leads, Marked, Met}
+use Rattle.edges.specs.Routes.{bit, seenIn, Routes, HasRoute, Marked, SeenOrMarked}
 use Rattle.edges.proofs.Bits.{bit-none, bit-power, bit-or}
 use Rattle.edges.proofs.Tested.{route-self, route-along}
 
--- Both ends of an edge that is not strange.
-module _ (w : List ℕ) (i : ℕ) (h : strangeEdge 64 (edgeAt w i) ≡ false) where
+-- Both ends of an edge whose ids are known.
+module _ (w : List ℕ) (i : ℕ) (h : unknownIdEdge 64 (edgeAt w i) ≡ false) where
   pub source-below : getD w (4 * i) 0 < 64
   unfolding edgeAt
   source-below = leb-false 64 (getD w (4 * i) 0) (or-left (leb 64 (getD w (4 * i) 0)) (leb 64 (getD w (4 * i + 1) 0)) h)
@@ -44,10 +44,6 @@ pub no-routes : Routes [] (zeroes 64)
 unfolding Routes any
 no-routes a b = ap (λ (x : ℕ). bit x b) (noughts 64 a) ∙ bit-none b
 
-cleared-routes : (t u : List ℕ) → length t ≡ 64 → u ≡ cleared 0 64 t → Routes [] u
-unfolding cleared
-cleared-routes t u l e = let g : length t ≤ 64 = omega arith in rw (e, drop-of-length-le t g) no-routes
-
 -- Bit t of word f is set.
 with-bit : (w : List ℕ) (f t s d : ℕ) → f < length w → seenIn (set w f (bitOr (getD w f 0) (2 ^ t))) s d ≡ eqb f s && eqb t d || seenIn w s d
 with-bit w f t s d h =
@@ -63,7 +59,7 @@ module _ (edges w : List ℕ) (i : ℕ) where
   abbrev to : ℕ
   to = getD edges (4 * i + 1) 0
 
-  pub marking : length w ≡ 64 → strangeEdge 64 (edgeAt edges i) ≡ false → Marked (edgeAt edges i) w (set w from (bitOr (getD w from 0) (1 * 2 ^ to % 2 ^ 64)))
+  pub marking : length w ≡ 64 → unknownIdEdge 64 (edgeAt edges i) ≡ false → Marked (edgeAt edges i) w (set w from (bitOr (getD w from 0) (1 * 2 ^ to % 2 ^ 64)))
   unfolding Marked Routes edgeAt any
   marking l h es r s d =
       let b : 2 ^ to < 2 ^ 64 = pow-lt (destination-below edges i h) in
@@ -71,23 +67,23 @@ module _ (edges w : List ℕ) (i : ℕ) where
       rw x (with-bit w from to s d (omega (arith, source-below edges i h)) ∙ rw (r s d))
 
   -- It is met with the edges of w seen.
-  module _ (r : Bool) (l : Leads w from to r) where
-    pub meet-bad : r ≡ true → Met (edgeAt edges i) w w true
+  module _ (r : Bool) (l : HasRoute w from to r) where
+    pub meet-bad : r ≡ true → SeenOrMarked (edgeAt edges i) w w true
     unfolding edgeAt
-    meet-bad t = record { bad = subst (Leads w from to) t l; marked = λ x. absurd (true≢false x) }
+    meet-bad t = record { bad = subst (HasRoute w from to) t l; marked = λ x. absurd (true≢false x) }
 
-    pub meet-new : r ≡ false → (u : List ℕ) → Marked (edgeAt edges i) w u → Met (edgeAt edges i) w u false
+    pub meet-new : r ≡ false → (u : List ℕ) → Marked (edgeAt edges i) w u → SeenOrMarked (edgeAt edges i) w u false
     unfolding edgeAt
-    meet-new t u m = record { bad = subst (Leads w from to) t l; marked = λ _. m }
+    meet-new t u m = record { bad = subst (HasRoute w from to) t l; marked = λ _. m }
 
 -- The answer read off a table.
 module _ (w : List ℕ) (a b : ℕ) where
-  pub leads-self : a ≡ b → Leads w a b (eqb a b)
-  unfolding Leads
+  pub leads-self : a ≡ b → HasRoute w a b (eqb a b)
+  unfolding HasRoute
   leads-self e es r = eq-eqb a b e ∙ route-self es a b e
 
-  pub leads-along : (a ≡ b → ⊥) → Leads w a b (eqb (getD w a 0 / 2 ^ b % 2) 1)
-  unfolding Leads Routes bit
+  pub leads-along : (a ≡ b → ⊥) → HasRoute w a b (eqb (getD w a 0 / 2 ^ b % 2) 1)
+  unfolding HasRoute Routes bit
   leads-along n es r = route-along es a b _ n (r a b)
 
 -- A pass over the edges from the last to the first: those from i on are in the table.
@@ -99,11 +95,11 @@ module _ (edges : List ℕ) (n : ℕ) where
   pub routing-start : (w : List ℕ) → Routes [] w → Routing edges n n w
   routing-start w r = record { within = omega arith; routes = rw (tab-none (edgeAt edges) n n (omega arith)) r }
 
-  pub routing-cleared : (t u : List ℕ) → length t ≡ 64 → u ≡ cleared 0 64 t → Routing edges n n u
-  routing-cleared t u l e = routing-start u (cleared-routes t u l e)
+  pub routing-empty : (t : List ℕ) → t ≡ zeroes 64 → Routing edges n n t
+  routing-empty t e = routing-start t (rw e no-routes)
 
-  pub not-strange : (i : ℕ) → 0 < i → i ≤ n → any (strangeEdge 64) (edgesOf n edges) ≡ false → strangeEdge 64 (edgeAt edges (i - 1)) ≡ false
-  not-strange i h l e = all-at (λ (x : Edge). strangeEdge 64 x ≡ false) (edgeAt edges) 0 n (i - 1) (any-none (strangeEdge 64) (edgesOf n edges) e) (omega arith) (omega arith)
+  pub not-unknown : (i : ℕ) → 0 < i → i ≤ n → any (unknownIdEdge 64) (edgesOf n edges) ≡ false → unknownIdEdge 64 (edgeAt edges (i - 1)) ≡ false
+  not-unknown i h l e = all-at (λ (x : Edge). unknownIdEdge 64 x ≡ false) (edgeAt edges) 0 n (i - 1) (any-none (unknownIdEdge 64) (edgesOf n edges) e) (omega arith) (omega arith)
 
   module _ (i : ℕ) (w : List ℕ) (p : Routing edges n i w) where
     pub routing-more : 0 < i → (u : List ℕ) → Marked (edgeAt edges (i - 1)) w u → Routing edges n (i - 1) u

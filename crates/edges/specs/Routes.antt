@@ -21,14 +21,14 @@ unfoldable pub Routes : List Edge → List ℕ → Type 0
 Routes es w = (a b : ℕ) → seenIn w a b ≡ any (joins a b) es
 
 -- The answer for a and b, for any edges that the table is of.
-unfoldable pub Leads : List ℕ → ℕ → ℕ → Bool → Type 0
-Leads w a b r = (es : List Edge) → Routes es w → r ≡ route es a b
+unfoldable pub HasRoute : List ℕ → ℕ → ℕ → Bool → Type 0
+HasRoute w a b r = (es : List Edge) → Routes es w → r ≡ route es a b
 
 -- With the edge e more, the table is u.
 unfoldable pub Marked : Edge → List ℕ → List ℕ → Type 0
 Marked e w u = (es : List Edge) → Routes es w → Routes (e ∷ es) u
 
 -- The answer for an edge when those in w were seen: it leads to its own source, or its pair was seen. If it is no, u has the edge too.
-pub record Met (e : Edge) (w u : List ℕ) (r : Bool) : Type 0 where
-  pub bad : Leads w (e .source) (e .destination) r
+pub record SeenOrMarked (e : Edge) (w u : List ℕ) (r : Bool) : Type 0 where
+  pub bad : HasRoute w (e .source) (e .destination) r
   pub marked : r ≡ false → Marked e w u

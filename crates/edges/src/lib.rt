@@ -7,14 +7,15 @@ ghost use mathlib.Core.Path.{_≡_};
 ghost use mathlib.Core.Bool.{false};
 ghost use Prim.Native.Nat.{_+_, _*_, _≤_, _<_};
 ghost use lib.ListN.{length};
+ghost use Rattle.words.specs.Words.{zeroes};
 ghost use Rattle.rules.specs.Base.{any};
 ghost use Rattle.rules.specs.Pending.{joins, route};
-ghost use Rattle.rules.specs.Foreign.{strangeEdge, badEdges};
+ghost use Rattle.rules.specs.Foreign.{unknownIdEdge, duplicateOrSelfEdges};
 ghost use Rattle.records.specs.Records.{edgeAt, edgesOf};
-ghost use Rattle.edges.specs.Routes.{Routes, Leads, Marked, Met};
+ghost use Rattle.edges.specs.Routes.{Routes, HasRoute, Marked, SeenOrMarked};
 
 // Whether a route leads from a to b: to itself, or along an edge. Ids are whole words here.
-pub fn routed(edges: &[u64], count: usize, a: u64, b: u64) -> bool
+pub fn has_route(edges: &[u64], count: usize, a: u64, b: u64) -> bool
     requires { ⌜ 4 * count ≤ length (now edges) ⌝ }
     ensures { λ r. ⌜ r ≡ route (edgesOf count (now (edges .entry))) a b ⌝ }
 {
@@ -23,7 +24,7 @@ pub fn routed(edges: &[u64], count: usize, a: u64, b: u64) -> bool
     }
     let mut i: usize = 0;
     while i < count {
-        if joins(edges, i, a, b) {
+        if is_edge(edges, i, a, b) {
             return true;
         }
         i += 1;
@@ -32,7 +33,7 @@ pub fn routed(edges: &[u64], count: usize, a: u64, b: u64) -> bool
 }
 
 // Whether edge i leads from a to b.
-fn joins(edges: &[u64], i: usize, a: u64, b: u64) -> bool
+fn is_edge(edges: &[u64], i: usize, a: u64, b: u64) -> bool
     requires { ⌜ 4 * i + 4 ≤ length (now edges) ⌝ }
     ensures { λ r. ⌜ r ≡ joins a b (edgeAt (now (edges .entry)) i) ⌝ }
 {
@@ -40,13 +41,13 @@ fn joins(edges: &[u64], i: usize, a: u64, b: u64) -> bool
 }
 
 // 11: whether an edge has an end that is not below n.
-pub fn strange_edges(edges: &[u64], count: usize, n: u64) -> bool
+pub fn unknown_id_edges(edges: &[u64], count: usize, n: u64) -> bool
     requires { ⌜ 4 * count ≤ length (now edges) ⌝ }
-    ensures { λ r. ⌜ r ≡ any (strangeEdge n) (edgesOf count (now (edges .entry))) ⌝ }
+    ensures { λ r. ⌜ r ≡ any (unknownIdEdge n) (edgesOf count (now (edges .entry))) ⌝ }
 {
     let mut i: usize = 0;
     while i < count {
-        if strange(edges, i, n) {
+        if unknown_id_edge(edges, i, n) {
             return true;
         }
         i += 1;
@@ -55,24 +56,24 @@ pub fn strange_edges(edges: &[u64], count: usize, n: u64) -> bool
 }
 
 // Whether edge i has an end that is not below n.
-fn strange(edges: &[u64], i: usize, n: u64) -> bool
+fn unknown_id_edge(edges: &[u64], i: usize, n: u64) -> bool
     requires { ⌜ 4 * i + 4 ≤ length (now edges) ⌝ }
-    ensures { λ r. ⌜ r ≡ strangeEdge n (edgeAt (now (edges .entry)) i) ⌝ }
+    ensures { λ r. ⌜ r ≡ unknownIdEdge n (edgeAt (now (edges .entry)) i) ⌝ }
 {
     n <= edges[4 * i] || n <= edges[4 * i + 1]
 }
 
 // 11: whether an edge stands twice or leads to its own source. From the end, as the rules tell a
 // second edge: by those behind it.
-pub fn bad_edges(edges: &[u64], count: usize) -> bool
-    requires { ⌜ (4 * count ≤ length (now edges)) × (any (strangeEdge 64) (edgesOf count (now edges)) ≡ false) ⌝ }
-    ensures { λ r. ⌜ r ≡ badEdges (edgesOf count (now (edges .entry))) ⌝ }
+pub fn duplicate_or_self_edges(edges: &[u64], count: usize) -> bool
+    requires { ⌜ (4 * count ≤ length (now edges)) × (any (unknownIdEdge 64) (edgesOf count (now edges)) ≡ false) ⌝ }
+    ensures { λ r. ⌜ r ≡ duplicateOrSelfEdges (edgesOf count (now (edges .entry))) ⌝ }
 {
     let mut seen = [0u64; 64];
     let mut i = count;
     while 0 < i {
         i -= 1;
-        if meet(edges, i, &mut seen) {
+        if seen_or_mark(edges, i, &mut seen) {
             return true;
         }
     }
@@ -80,20 +81,20 @@ pub fn bad_edges(edges: &[u64], count: usize) -> bool
 }
 
 // Whether edge i leads to its own source or its pair was seen; if neither, it is seen now.
-fn meet(edges: &[u64], i: usize, seen: &mut [u64]) -> bool
-    requires { ⌜ (4 * i + 4 ≤ length (now edges)) × (length (now seen) ≡ 64) × (strangeEdge 64 (edgeAt (now edges) i) ≡ false) ⌝ }
-    ensures { λ r. ⌜ Met (edgeAt (now (edges .entry)) i) (now (seen .entry)) (now (seen .exit)) r ⌝ }
+fn seen_or_mark(edges: &[u64], i: usize, seen: &mut [u64]) -> bool
+    requires { ⌜ (4 * i + 4 ≤ length (now edges)) × (length (now seen) ≡ 64) × (unknownIdEdge 64 (edgeAt (now edges) i) ≡ false) ⌝ }
+    ensures { λ r. ⌜ SeenOrMarked (edgeAt (now (edges .entry)) i) (now (seen .entry)) (now (seen .exit)) r ⌝ }
 {
-    if leads(seen, edges[4 * i], edges[4 * i + 1]) {
+    if has_route_in(seen, edges[4 * i], edges[4 * i + 1]) {
         return true;
     }
-    mark(edges, i, seen);
+    mark_route(edges, i, seen);
     false
 }
 
 // Edge i is put into the table.
-fn mark(edges: &[u64], i: usize, routes: &mut [u64])
-    requires { ⌜ (4 * i + 4 ≤ length (now edges)) × (length (now routes) ≡ 64) × (strangeEdge 64 (edgeAt (now edges) i) ≡ false) ⌝ }
+fn mark_route(edges: &[u64], i: usize, routes: &mut [u64])
+    requires { ⌜ (4 * i + 4 ≤ length (now edges)) × (length (now routes) ≡ 64) × (unknownIdEdge 64 (edgeAt (now edges) i) ≡ false) ⌝ }
     ensures { λ _. ⌜ Marked (edgeAt (now (edges .entry)) i) (now (routes .entry)) (now (routes .exit)) ⌝ }
 {
     let from = edges[4 * i];
@@ -103,23 +104,22 @@ fn mark(edges: &[u64], i: usize, routes: &mut [u64])
     routes[at] = row | (1u64 << to);
 }
 
-// The table of all edges, found once: an edge may stand twice or lead to its own source.
+// All edges go to an empty table: an edge may stand twice or lead to its own source.
 pub fn find_routes(edges: &[u64], count: usize, routes: &mut [u64])
-    requires { ⌜ (4 * count ≤ length (now edges)) × (length (now routes) ≡ 64) × (any (strangeEdge 64) (edgesOf count (now edges)) ≡ false) ⌝ }
+    requires { ⌜ (4 * count ≤ length (now edges)) × (now routes ≡ zeroes 64) × (any (unknownIdEdge 64) (edgesOf count (now edges)) ≡ false) ⌝ }
     ensures { λ _. ⌜ Routes (edgesOf count (now (edges .entry))) (now (routes .exit)) ⌝ }
 {
-    words::clear(routes, 0, 64);
     let mut i = count;
     while 0 < i {
         i -= 1;
-        mark(edges, i, routes);
+        mark_route(edges, i, routes);
     }
 }
 
 // Whether a route leads from a to b, by the table.
-pub fn leads(routes: &[u64], a: u64, b: u64) -> bool
+pub fn has_route_in(routes: &[u64], a: u64, b: u64) -> bool
     requires { ⌜ (length (now routes) ≡ 64) × (a < 64) × (b < 64) ⌝ }
-    ensures { λ r. ⌜ Leads (now (routes .entry)) a b r ⌝ }
+    ensures { λ r. ⌜ HasRoute (now (routes .entry)) a b r ⌝ }
 {
     a == b || (routes[a as usize] >> b) % 2 == 1
 }

@@ -11,12 +11,12 @@ use Rattle.words.specs.Words.{tab, tickAt, horizonsOf}
 use Rattle.words.proofs.Tab.{length-tab}
 use Rattle.records.specs.Records.{edgeAt, eventAt, edgesOf, eventsOf}
 use Rattle.rules.specs.Base.{any, anyOf, nonEmpty}
-use Rattle.rules.specs.Foreign.{overLimit, strangeId, foreign}
+use Rattle.rules.specs.Foreign.{overLimit, unknownId, foreign}
 use Rattle.rules.proofs.Tests.{not-of-true}
-use Rattle.state.specs.declared.Head.{Head}
+use Rattle.state.specs.declared.Header.{Header}
 use Rattle.state.specs.declared.Runtime.{Runtime}
 use Rattle.state.specs.View.{viewOf}
-use Rattle.foreign.specs.Tests.{headTests, edgeTests, pendingTests, batchTests, IsForeign}
+use Rattle.foreign.specs.Tests.{headerTests, edgeTests, pendingTests, batchTests, IsForeign}
 
 or-swap : (a b c : Bool) → a || (b || c) ≡ b || (a || c)
 or-swap a b c = sym (or-assoc a b c) ∙ rw (or-comm a b) (or-assoc b a c)
@@ -51,11 +51,11 @@ unfolding nonEmpty tab
 some-tab f i zero = refl
 some-tab f i (suc n) = sym (lt-ltb 0 (suc n) (omega arith))
 
--- What the program's tests say of a head and its arrays is what the rule says.
-pub ruled : (h : Head) (edges pending batch : List ℕ) (r : Bool)
-    → r ≡ anyOf (anyOf (headTests h) ∷ anyOf (edgeTests (h .n) (edgesOf (h .edges) edges)) ∷ anyOf (pendingTests (h .n) (h .next) (eventsOf (h .pending) pending)) ∷ anyOf (batchTests (h .n) (eventsOf (h .batch) batch)) ∷ [])
+-- What the program's tests say of a header and its arrays is what the rule says.
+pub ruled : (h : Header) (edges pending batch : List ℕ) (r : Bool)
+    → r ≡ anyOf (anyOf (headerTests h) ∷ anyOf (edgeTests (h .n) (edgesOf (h .edges) edges)) ∷ anyOf (pendingTests (h .n) (h .next) (eventsOf (h .pending) pending)) ∷ anyOf (batchTests (h .n) (eventsOf (h .batch) batch)) ∷ [])
     → IsForeign h edges pending batch r
-unfolding IsForeign foreign overLimit strangeId
+unfolding IsForeign foreign overLimit unknownId
 ruled h edges pending batch r e horizons =
     let w : not (eqb (length (horizonsOf (h .n) horizons)) (h .n)) ≡ false = not-of-true _ (eq-eqb _ _ (length-tab (λ i. tickAt horizons (2 * i)) 0 (h .n))) in
     rw (w, length-tab (edgeAt edges) 0 (h .edges), length-tab (eventAt pending) 0 (h .pending), length-tab (eventAt batch) 0 (h .batch), some-tab (eventAt batch) 0 (h .batch))

@@ -1,4 +1,4 @@
 pub mod Chain
-pub mod Heads
+pub mod Headers
 pub mod Ends
 pub mod Grouped

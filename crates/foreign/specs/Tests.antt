@@ -1,48 +1,48 @@
--- The tests of 11 by what the program reads for them: the head, the edges, the pending events, the batch.
+-- The tests of 11 by what the program reads for them: the header, the edges, the pending events, the batch.
 use mathlib.Core.Path.{_≡_}
 use mathlib.Core.Bool.{Bool, not, _&&_}
 use mathlib.Core.List.{List, [], _∷_}
 use Prim.Native.Nat.{ℕ}
 use lib.Dec.{ltb, eqb}
-use Rattle.types.specs.Value.{value, span}
+use Rattle.types.specs.Value.{ticksOf, durationOf}
 use Rattle.rules.specs.Base.{any, anyOf, rising}
-use Rattle.rules.specs.State.{Event, Edge, Stored, most-processes, most-edges, most-pending}
+use Rattle.rules.specs.State.{Event, Edge, Stored, maxProcesses, maxEdges, maxPending}
 use Rattle.rules.specs.Pending.{before}
-use Rattle.rules.specs.Foreign.{strangeEdge, badEdges, atTop, isUnset, byProcess, foreign}
-use Rattle.events.specs.Clauses.{oddEvents, lateEvents}
-use Rattle.state.specs.declared.Head.{Head}
+use Rattle.rules.specs.Foreign.{unknownIdEdge, duplicateOrSelfEdges, horizonIsMax, isUnset, byProcess, foreign}
+use Rattle.foreign_events.specs.Clauses.{anyInvalidEvent, anySequenceNotBelow}
+use Rattle.state.specs.declared.Header.{Header}
 use Rattle.state.specs.View.{view, storedOf}
 
 -- "a process count outside 1 to 64, L = 0"
-abbrev pub sizeTests : Head → List Bool
-sizeTests h = eqb (h .n) 0 ∷ ltb most-processes (h .n) ∷ eqb (span (h .lookahead)) 0 ∷ []
+abbrev pub sizeTests : Header → List Bool
+sizeTests h = eqb (h .n) 0 ∷ ltb maxProcesses (h .n) ∷ eqb (durationOf (h .lookahead)) 0 ∷ []
 
 -- "a count .. over its limit"
-abbrev pub countTests : Head → List Bool
-countTests h = ltb most-edges (h .edges) ∷ ltb most-pending (h .pending) ∷ ltb most-processes (h .batch) ∷ []
+abbrev pub countTests : Header → List Bool
+countTests h = ltb maxEdges (h .edges) ∷ ltb maxPending (h .pending) ∷ ltb maxProcesses (h .batch) ∷ []
 
 -- "a stored horizon of 2^128 - 1, an open run without a stored horizon, a batch without an open run"
-abbrev pub storedIn : Head → Stored
-storedIn h = storedOf (h .stored) (value (h .horizon)) (h .budget)
+abbrev pub storedIn : Header → Stored
+storedIn h = storedOf (h .stored) (ticksOf (h .horizon)) (h .budget)
 
-abbrev pub runTests : Head → List Bool
-runTests h = atTop (storedIn h) ∷ (h .running && isUnset (storedIn h)) ∷ (ltb 0 (h .batch) && not (h .running)) ∷ []
+abbrev pub runTests : Header → List Bool
+runTests h = horizonIsMax (storedIn h) ∷ (h .running && isUnset (storedIn h)) ∷ (ltb 0 (h .batch) && not (h .running)) ∷ []
 
-abbrev pub headTests : Head → List Bool
-headTests h = anyOf (sizeTests h) ∷ anyOf (countTests h) ∷ anyOf (runTests h) ∷ []
+abbrev pub headerTests : Header → List Bool
+headerTests h = anyOf (sizeTests h) ∷ anyOf (countTests h) ∷ anyOf (runTests h) ∷ []
 
 -- "an id not below n, an edge twice or to its own source"
 abbrev pub edgeTests : ℕ → List Edge → List Bool
-edgeTests n es = any (strangeEdge n) es ∷ badEdges es ∷ []
+edgeTests n es = any (unknownIdEdge n) es ∷ duplicateOrSelfEdges es ∷ []
 
 -- "a .. length over its limit, an id not below n, .. pending events not strictly rising .., a pending sequence not below the next one"
 abbrev pub pendingTests : ℕ → ℕ → List Event → List Bool
-pendingTests n next q = oddEvents n q ∷ not (rising before q) ∷ lateEvents next q ∷ []
+pendingTests n next q = anyInvalidEvent n q ∷ not (rising before q) ∷ anySequenceNotBelow next q ∷ []
 
 -- "a .. length over its limit, an id not below n, .. or a batch not strictly rising by process"
 abbrev pub batchTests : ℕ → List Event → List Bool
-batchTests n bs = oddEvents n bs ∷ not (rising byProcess bs) ∷ []
+batchTests n bs = anyInvalidEvent n bs ∷ not (rising byProcess bs) ∷ []
 
 -- The answer is the rule's, whatever the words of the local horizons are.
-unfoldable pub IsForeign : Head → List ℕ → List ℕ → List ℕ → Bool → Type 0
+unfoldable pub IsForeign : Header → List ℕ → List ℕ → List ℕ → Bool → Type 0
 IsForeign h edges pending batch r = (horizons : List ℕ) → r ≡ foreign (view h edges pending horizons batch)

@@ -1,23 +1,26 @@
-// 11 on the program's state: a head beside its arrays. Its tests, by what is read for them, are in
+// 11 on the program's state: a header beside its arrays. Its tests, by what is read for them, are in
 // specs/Tests.antt.
-use state::Head;
+use state::Header;
+use types::MAX_EDGES;
+use types::MAX_PENDING;
+use types::MAX_PROCESSES;
 use types::SimTime;
 ghost use mathlib.Core.Path.{_≡_};
 ghost use Prim.Native.Nat.{_*_, _≤_};
 ghost use lib.ListN.{length};
 ghost use Rattle.rules.specs.Base.{anyOf};
-ghost use Rattle.rules.specs.Foreign.{atTop};
+ghost use Rattle.rules.specs.Foreign.{horizonIsMax};
 ghost use Rattle.records.specs.Records.{edgesOf, eventsOf};
-ghost use Rattle.foreign.specs.Tests.{sizeTests, countTests, storedIn, runTests, headTests, edgeTests, pendingTests, batchTests, IsForeign};
+ghost use Rattle.foreign.specs.Tests.{sizeTests, countTests, storedIn, runTests, headerTests, edgeTests, pendingTests, batchTests, IsForeign};
 
 // Of the process count and the lookahead.
-fn odd_size(head: Head) -> bool
+fn invalid_size(head: Header) -> bool
     ensures { λ r. ⌜ r ≡ anyOf (sizeTests head) ⌝ }
 {
     if head.n == 0 {
         return true;
     }
-    if 64 < head.n {
+    if MAX_PROCESSES < head.n as u64 {
         return true;
     }
     let lookahead = head.lookahead;
@@ -25,21 +28,21 @@ fn odd_size(head: Head) -> bool
 }
 
 // Of the counts of what stands in the arrays.
-fn over_limit(head: Head) -> bool
+fn over_limit(head: Header) -> bool
     ensures { λ r. ⌜ r ≡ anyOf (countTests head) ⌝ }
 {
-    if 512 < head.edges {
+    if MAX_EDGES < head.edges {
         return true;
     }
-    if 512 < head.pending {
+    if MAX_PENDING < head.pending {
         return true;
     }
-    64 < head.batch
+    MAX_PROCESSES < head.batch as u64
 }
 
 // Whether a stored horizon is the largest tick: no tick is above it.
-fn is_at_top(head: Head) -> bool
-    ensures { λ r. ⌜ r ≡ atTop (storedIn head) ⌝ }
+fn horizon_is_max(head: Header) -> bool
+    ensures { λ r. ⌜ r ≡ horizonIsMax (storedIn head) ⌝ }
 {
     if !head.stored {
         return false;
@@ -50,10 +53,10 @@ fn is_at_top(head: Head) -> bool
 }
 
 // With a run open only the horizon can be missing; without one, a batch is too much.
-fn odd_run(head: Head) -> bool
+fn invalid_run(head: Header) -> bool
     ensures { λ r. ⌜ r ≡ anyOf (runTests head) ⌝ }
 {
-    if is_at_top(head) {
+    if horizon_is_max(head) {
         return true;
     }
     if head.running {
@@ -62,69 +65,69 @@ fn odd_run(head: Head) -> bool
     0 < head.batch
 }
 
-// All that 11 asks of the head.
-fn odd_head(head: Head) -> bool
-    ensures { λ r. ⌜ r ≡ anyOf (headTests head) ⌝ }
+// All that 11 asks of the header.
+fn invalid_header(head: Header) -> bool
+    ensures { λ r. ⌜ r ≡ anyOf (headerTests head) ⌝ }
 {
-    if odd_size(head) {
+    if invalid_size(head) {
         return true;
     }
     if over_limit(head) {
         return true;
     }
-    odd_run(head)
+    invalid_run(head)
 }
 
 // Ends first: with all of them below 64, edges are told apart by bits.
-fn odd_edges(edges: &[u64], count: usize, n: u64) -> bool
+fn invalid_edges(edges: &[u64], count: usize, n: u64) -> bool
     requires { ⌜ (4 * count ≤ length (now edges)) × (n ≤ 64) ⌝ }
     ensures { λ r. ⌜ r ≡ anyOf (edgeTests n (edgesOf count (now (edges .entry)))) ⌝ }
 {
-    if edges::strange_edges(edges, count, n) {
+    if edges::unknown_id_edges(edges, count, n) {
         return true;
     }
-    edges::bad_edges(edges, count)
+    edges::duplicate_or_self_edges(edges, count)
 }
 
-fn odd_pending(pending: &[u64], count: usize, n: u64, next: u64) -> bool
+fn invalid_pending(pending: &[u64], count: usize, n: u64, next: u64) -> bool
     requires { ⌜ 8 * count ≤ length (now pending) ⌝ }
     ensures { λ r. ⌜ r ≡ anyOf (pendingTests n next (eventsOf count (now (pending .entry)))) ⌝ }
 {
-    if events::odd_events(pending, count, n) {
+    if foreign_events::invalid_events(pending, count, n) {
         return true;
     }
     if !records::strictly_rising(pending, count) {
         return true;
     }
-    events::late_events(pending, count, next)
+    foreign_events::sequence_not_below_next(pending, count, next)
 }
 
-fn odd_batch(batch: &[u64], count: usize, n: u64) -> bool
+fn invalid_batch(batch: &[u64], count: usize, n: u64) -> bool
     requires { ⌜ 8 * count ≤ length (now batch) ⌝ }
     ensures { λ r. ⌜ r ≡ anyOf (batchTests n (eventsOf count (now (batch .entry)))) ⌝ }
 {
-    if events::odd_events(batch, count, n) {
+    if foreign_events::invalid_events(batch, count, n) {
         return true;
     }
-    !events::rises_by_process(batch, count)
+    !foreign_events::rising_by_process(batch, count)
 }
 
-// 11, of every head and all arrays of the right lengths. The local horizons are not read: a state
-// has one for each process by its layout. The head comes first: the walks ask that as many words as
+// 11, of every header and all arrays of the right lengths. The local horizons are not read: a state
+// has one for each process by its layout. The header comes first: the walks ask that as many words as
 // it says are there.
-pub fn is_foreign<'a>(head: Head, edges: &'a [u64], pending: &'a [u64], batch: &'a [u64]) -> bool
+pub fn is_foreign<'a>(head: Header, edges: &'a [u64], pending: &'a [u64], batch: &'a [u64]) -> bool
     requires { ⌜ (length (now edges) ≡ 2048) × (length (now pending) ≡ 4096) × (length (now batch) ≡ 512) ⌝ }
     ensures { λ r. ⌜ IsForeign head (now (edges .entry)) (now (pending .entry)) (now (batch .entry)) r ⌝ }
 {
-    if odd_head(head) {
+    if invalid_header(head) {
         return true;
     }
     let n = head.n as u64;
-    if odd_edges(edges, head.edges, n) {
+    if invalid_edges(edges, head.edges, n) {
         return true;
     }
-    if odd_pending(pending, head.pending, n, head.next) {
+    if invalid_pending(pending, head.pending, n, head.next) {
         return true;
     }
-    odd_batch(batch, head.batch, n)
+    invalid_batch(batch, head.batch, n)
 }

@@ -1,6 +1,8 @@
 pub mod Changing
 pub mod Tables
 pub mod Capped
-pub mod Rising
-pub mod Lifting
+pub mod RaisingBounds
+pub mod RaisingHorizons
+pub mod Bounds
+pub mod Early
 pub mod Gathered

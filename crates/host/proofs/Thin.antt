@@ -25,21 +25,21 @@ use denote.Struct.Laws as LL
 use denote.Triple.Statement.{Contract, Triple}
 use denote.Triple.Call.{calls-at}
 use Rattle.state.specs.declared.Counters.{Counters}
-use Rattle.runtime.specs.declared.Called.{Called}
-use Rattle.host.specs.declared.Done.{Done}
+use Rattle.runtime.specs.declared.CallResult.{CallResult}
+use Rattle.host.specs.declared.HostCallResult.{HostCallResult}
 use Rattle.state.proofs.Counters as T
 use Rattle.state.proofs.Counters.Laws as T′
-use Rattle.runtime.proofs.Called as B
-use Rattle.runtime.proofs.Called.Laws as B′
-use Rattle.host.proofs.Done as D
-use Rattle.host.proofs.Done.Laws as D′
+use Rattle.runtime.proofs.CallResult as B
+use Rattle.runtime.proofs.CallResult.Laws as B′
+use Rattle.host.proofs.HostCallResult as D
+use Rattle.host.proofs.HostCallResult.Laws as D′
 
 -- of what a call gave, what a host is given
-abbrev pub doneOf : Called → Done
+abbrev pub doneOf : CallResult → HostCallResult
 doneOf r = record { answer = r .answer; state = r .state }
 
 -- and what owning the whole tells of its fields
-module _ (r : Called) (is : Is B.the-row r (LL.vals B.the-type B′.the-laws r)) where
+module _ (r : CallResult) (is : Is B.the-row r (LL.vals B.the-type B′.the-laws r)) where
   pub is-done : Is D.the-row (doneOf r) (LL.vals D.the-type D′.the-laws (doneOf r))
   is-done = LL.owes D.the-type D′.the-laws (doneOf r) (LL.owed B.the-type B′.the-laws r _ is .0, (LL.owed B.the-type B′.the-laws r _ is .1 .0, tt))
 
@@ -72,12 +72,12 @@ found {𝓤 = 𝓤} {H} {A} {K} {W} {Γ} {E} {i} {st} {sp} {sp′} t e w = from 
 module _ {M : Type 1} {𝓤 : URA M} {H : Heap 𝓤} {A : Atoms 𝓤} {K : Type 0} {W : Given 𝓤 H A} {κ : Lft} {q : Share} {b o : ℕ} {γ : GName} {C : Calls 𝓤 H} {Λ : Loops 𝓤 H} {E : Env 𝓤 H} {k : Name} {t r l₀ l₂ lt lr : ℕ} {τ₂ : Ty} {xs : List Operand} {i : Item 𝓤} {Γ : List (Item 𝓤)} {Q : Post 𝓤 H} where
   -- From the loan and room for the body's locals to `return`: the counters that the callee gave are in the loan, and the rest of what it gave is in _0.
   -- The callee asks what the counters own and i, and gives some r of which `Ran` holds. The operands are read with five entries at the head of the context.
-  pub counts : K → FmC 𝓤 H (W .laws) C → (c : Contract 𝓤) → Triple 𝓤 (C k) c → (y : c .Ghost) (h : Counters) (Ran : Called → Type 0)
+  pub counts : K → FmC 𝓤 H (W .laws) C → (c : Contract 𝓤) → Triple 𝓤 (C k) c → (y : c .Ghost) (h : Counters) (Ran : CallResult → Type 0)
       → ent 𝓤 (sep 𝓤 (sem 𝓤 H A (T.the-row .own h (LL.vals T.the-type T′.the-laws h))) (mean 𝓤 H A i)) (c .pre y)
-      → ((v : Val) → ent 𝓤 (c .post y v) (H .⇛ (ex 𝓤 (λ (g : Called). sep 𝓤 (sem 𝓤 H A (B.the-row .own g (v ∷ []))) (fact 𝓤 (Ran g))))))
+      → ((v : Val) → ent 𝓤 (c .post y v) (H .⇛ (ex 𝓤 (λ (g : CallResult). sep 𝓤 (sem 𝓤 H A (B.the-row .own g (v ∷ []))) (fact 𝓤 (Ran g))))))
       → spotOf 𝓤 H E 0 ≡ (D′.mir, l₀, 0) → spotOf 𝓤 H E 2 ≡ (τ₂, l₂, 0) → spotOf 𝓤 H E t ≡ (T′.mir, lt, 0) → spotOf 𝓤 H E r ≡ (B′.mir, lr, 0)
       → ((i₀ i₁ i₂ i₃ i₄ : Item 𝓤) → Opds K W (i₀ ∷ i₁ ∷ i₂ ∷ i₃ ∷ i₄ ∷ ‵ (fat fullShare T′.mir lt 0 (LL.val T.the-type T′.the-laws h)) ∷ ‵ (froom B′.mir lr 0) ∷ ‵ (fat fullShare τ₂ l₂ 0 (vptr b o)) ∷ ‵ (froom D′.mir l₀ 0) ∷ Γ) E xs (c .args y))
-      → ((g : Called) → Is B.the-row g (LL.vals B.the-type B′.the-laws g) → Ran g
+      → ((g : CallResult) → Is B.the-row g (LL.vals B.the-type B′.the-laws g) → Ran g
       → Seq K W (‵ (fobs γ (T.the-row .coded .code (g .counters))) ∷ ‵ (fbor κ (Body (mem T.the-row) b o γ)) ∷ ‵ (flft κ q) ∷ ‵ (fat fullShare T′.mir lt 0 (LL.val T.the-type T′.the-laws h))
       ∷ ‵ (fat fullShare B′.mir lr 0 (LL.val B.the-type B′.the-laws g)) ∷ ‵ (fat fullShare τ₂ l₂ 0 (vptr b o)) ∷ ‵ (fat fullShare D′.mir l₀ 0 (LL.val D.the-type D′.the-laws (doneOf g))) ∷ Γ) (runs C Λ E return Q))
       → Seq K W (‵ (fobs γ (T.the-row .coded .code h)) ∷ ‵ (fbor κ (Body (mem T.the-row) b o γ)) ∷ ‵ (flft κ q) ∷ ‵ (froom T′.mir lt 0)
@@ -90,7 +90,7 @@ module _ {M : Type 1} {𝓤 : URA M} {H : Heap 𝓤} {A : Atoms 𝓤} {K : Type 
       move z (1 ∷ 9 ∷ []) $ use2 W (raw (c .pre y)) asked $
       -- [what the callee asks; the cell; the open borrow; obs; auth; t; room for r; _2; room for _0; …]
       calls-at z fm c known y (passed _ _ _ _ _) (λ v.
-      use1 W (later (some (λ (g : Called). ‵ (B.the-row .own g (v ∷ [])) ⊛ raw (fact 𝓤 (Ran g))))) (gave v) $ await z tt $ pick z (λ g. split z $ move z (1 ∷ []) $ heard z (Ran g) (λ e.
+      use1 W (later (some (λ (g : CallResult). ‵ (B.the-row .own g (v ∷ [])) ⊛ raw (fact 𝓤 (Ran g))))) (gave v) $ await z tt $ pick z (λ g. split z $ move z (1 ∷ []) $ heard z (Ran g) (λ e.
       peeks z B.the-row (Is B.the-row) (shows 𝓤 H A B.the-row) g (v ∷ []) (λ is₀.
       rewrite z 0 (λ (u : List Val). ‵ (B.the-row .own g u)) (LL.tells B.the-type B′.the-laws g (v ∷ []) is₀) refl $ peeks z B.the-row (Is B.the-row) (shows 𝓤 H A B.the-row) g (LL.vals B.the-type B′.the-laws g) (λ is.
       -- [what was given; the cell; the open borrow; obs; auth; t; room for r; _2; room for _0; …]
@@ -107,7 +107,7 @@ module _ {M : Type 1} (𝓤 : URA M) (H : Heap 𝓤) (A : Atoms 𝓤) (W : Given
   lent h = record { ptr = (b, o); name = γ; now = h }
 
   -- At exit the counters are still lent, at their last value, and the result is made. Nothing is had of the state, nor of the n other parameters.
-  pub handed : (r : Called) → Is B.the-row r (LL.vals B.the-type B′.the-laws r) → (n : ℕ)
+  pub handed : (r : CallResult) → Is B.the-row r (LL.vals B.the-type B′.the-laws r) → (n : ℕ)
       → ent 𝓤 (sep 𝓤 (A .obs γ (T.the-row .coded .code (r .counters))) (sep 𝓤 (A .bor κ (Body (mem T.the-row) b o γ)) (A .lft κ q)))
       (sep 𝓤 (sem 𝓤 H A (fsep (flft κ q) ftrue)) (sep 𝓤 (sem 𝓤 H A (fsep ftrue (fsep (MutRef (named 0) κ T.the-row .own (lent (r .counters)) (vptr b o ∷ [])) (none n)))) (sem 𝓤 H A (D.the-row .own (doneOf r) (LL.vals D.the-type D′.the-laws (doneOf r))))))
   handed r is n =

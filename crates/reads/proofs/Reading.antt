@@ -5,13 +5,13 @@ use Prim.Native.Nat.{ℕ, _*_, _≤_}
 use native.Mathlib.Omega.{arith}
 use lib.ListN.{length}
 use Rattle.types.specs.declared.SimTime.{SimTime}
-use Rattle.types.specs.Value.{value}
+use Rattle.types.specs.Value.{ticksOf}
 use Rattle.words.proofs.Tab.{length-tab}
 use Rattle.records.specs.Records.{eventAt, eventsOf}
-use Rattle.records.specs.Queue.{ticksOf}
+use Rattle.records.specs.Queue.{eventTicks}
 use Rattle.rules.specs.Base.{if_then_else_}
 use Rattle.rules.specs.State as R
-use Rattle.rules.specs.State.{State, top}
+use Rattle.rules.specs.State.{State, maxTick}
 use Rattle.rules.specs.Answers as A
 use Rattle.rules.specs.Rows.{unless, out, refuse}
 use Rattle.rules.specs.Foreign.{foreign}
@@ -73,6 +73,6 @@ module _ (s : Runtime) where
       unfolding readPending
       pending-read = record { gives = passed _ _ (ap A.Pending (sym (length-tab (eventAt (s .pending)) 0 (s .head .pending)))) }
 
-      pub earliest-read : (t cap : SimTime) → value t ≡ least (value cap) (ticksOf (eventsOf (s .head .pending) (s .pending))) → value cap ≡ top → Reads readEarliest s c (P.Earliest t)
+      pub earliest-read : (t cap : SimTime) → ticksOf t ≡ least (ticksOf cap) (eventTicks (eventsOf (s .head .pending) (s .pending))) → ticksOf cap ≡ maxTick → Reads readEarliest s c (P.Earliest t)
       unfolding readEarliest
-      earliest-read t cap q k = record { gives = passed _ _ (ap A.Earliest (q ∙ ap (λ (m : ℕ). least m (ticksOf (eventsOf (s .head .pending) (s .pending)))) k)) }
+      earliest-read t cap q k = record { gives = passed _ _ (ap A.Earliest (q ∙ ap (λ (m : ℕ). least m (eventTicks (eventsOf (s .head .pending) (s .pending)))) k)) }

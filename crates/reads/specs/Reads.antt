@@ -1,6 +1,6 @@
 -- What every read promises: document 01's rule, on every state, foreign ones among them.
 use mathlib.Core.Path.{_≡_}
-use Rattle.types.specs.Value.{value}
+use Rattle.types.specs.Value.{ticksOf}
 use Rattle.rules.specs.State as R
 use Rattle.rules.specs.State.{State}
 use Rattle.rules.specs.Answers as A
@@ -13,10 +13,10 @@ use Rattle.reads.specs.declared.ReadAnswer.the-variants as P
 
 -- The rules' answer that each answer stands for.
 abbrev pub readOf : ReadAnswer → A.Answer
-readOf (P.Gvt g) = A.Read (A.Gvt (value g))
+readOf (P.Gvt g) = A.Read (A.Gvt (ticksOf g))
 readOf (P.Counted c u) = A.Read (A.Counted (countersOf c) u)
 readOf (P.Pending k) = A.Read (A.Pending k)
-readOf (P.Earliest t) = A.Read (A.Earliest (value t))
+readOf (P.Earliest t) = A.Read (A.Earliest (ticksOf t))
 readOf P.ForeignState = A.Refused A.ForeignState
 
 -- Of the runtime s and the counters c, the read whose rule is `rule` answers a: with it, s and c as given are what the rule gives.

@@ -27,6 +27,14 @@ module _ {A : Type 0} (test : A → Bool) (f : ℕ → A) (n : ℕ) where
     pub seeking-found : test (f i) ≡ true → true ≡ any test (tab f 0 n)
     seeking-found t = rw t at next
 
+    -- The same where b is the answer for element i.
+    module _ (b : Bool) (q : b ≡ test (f i)) where
+      pub answer-passed : b ≡ false → Seeking (i + 1)
+      answer-passed t = seeking-more (sym q ∙ t)
+
+      pub answer-found : b ≡ true → true ≡ any test (tab f 0 n)
+      answer-found t = seeking-found (sym q ∙ t)
+
   pub seeking-end : (i : ℕ) → n ≤ i → Seeking i → false ≡ any test (tab f 0 n)
   unfolding any
   seeking-end i h s = rw (tab-none f i n h) at (s .rest)

@@ -8,7 +8,7 @@ use native.Mathlib.Nat.{add-zero}
 use lib.ListN.{length, getD, set, take, drop, List·getD-append}
 use lib.Seq.{getD-take, getD-drop, getD-append-add, length-take-le, sets-eq, set-getD}
 use Rattle.types.specs.declared.SimTime.{SimTime}
-use Rattle.types.specs.Value.{value}
+use Rattle.types.specs.Value.{ticksOf}
 use Rattle.types.proofs.Halves.{lt-or-ge}
 use Rattle.words.specs.Words.{tickAt, putTick, cleared}
 use Rattle.words.proofs.Tab.{tab-cong, length-tab}
@@ -27,14 +27,14 @@ unfolding recordIn
 record-cong u w a b h =
     let d : getD u a 0 ≡ getD w b 0 = simp add-zero at (h 0 (omega arith)) in
     λ i. record {
-      dst = d i;
+      destination = d i;
       hi = h 1 (omega arith) i;
       lo = h 2 (omega arith) i;
-      src = h 3 (omega arith) i;
-      seq = h 4 (omega arith) i;
+      source = h 3 (omega arith) i;
+      sequence = h 4 (omega arith) i;
       len = h 5 (omega arith) i;
-      p0 = h 6 (omega arith) i;
-      p1 = h 7 (omega arith) i;
+      «payload_hi» = h 6 (omega arith) i;
+      «payload_lo» = h 7 (omega arith) i;
     }
 
 pub event-cong : (u w : List ℕ) (i j : ℕ) → ((k : ℕ) → k < 8 → getD u (8 * i + k) 0 ≡ getD w (8 * j + k) 0) → eventAt u i ≡ eventAt w j
@@ -81,8 +81,8 @@ module _ (w : List ℕ) (at : ℕ) (r : Record) (fits : at + 8 ≤ length w) whe
   pub record-same : recordIn (putRecord w at r) at ≡ r
   unfolding recordIn
   record-same =
-      let d : getD (putRecord w at r) at 0 ≡ r .dst = ap (λ (k : ℕ). getD (putRecord w at r) k 0) (sym (add-zero at)) ∙ inside 0 in
-      λ i. record { dst = d i; hi = inside 1 i; lo = inside 2 i; src = inside 3 i; seq = inside 4 i; len = inside 5 i; p0 = inside 6 i; p1 = inside 7 i }
+      let d : getD (putRecord w at r) at 0 ≡ r .destination = ap (λ (k : ℕ). getD (putRecord w at r) k 0) (sym (add-zero at)) ∙ inside 0 in
+      λ i. record { destination = d i; hi = inside 1 i; lo = inside 2 i; source = inside 3 i; sequence = inside 4 i; len = inside 5 i; «payload_hi» = inside 6 i; «payload_lo» = inside 7 i }
 
   pub word-below : (k : ℕ) → k < at → getD (putRecord w at r) k 0 ≡ getD w k 0
   unfolding putRecord
@@ -118,7 +118,7 @@ events-cleared n from to w h a b = events-cong n _ w (λ k l. clear-front from t
 
 -- A bound stored: its edge has it, and the others stay.
 pub bound-same : (w : List ℕ) (i : ℕ) (t : SimTime) → 4 * i + 4 ≤ length w
-    → edgeAt (putTick w (4 * i + 2) t) i ≡ record { source = edgeAt w i .source; destination = edgeAt w i .destination; bound = value t }
+    → edgeAt (putTick w (4 * i + 2) t) i ≡ record { source = edgeAt w i .source; destination = edgeAt w i .destination; bound = ticksOf t }
 unfolding edgeAt
 bound-same w i t h = λ k. record {
   source = word-other w (4 * i + 2) t (4 * i) (λ e. omega arith) (λ e. omega arith) k;
@@ -131,7 +131,7 @@ bound-other w i k t ne = edge-cong _ w k k (λ j l. word-other w (4 * i + 2) t (
 
 -- Eight stores.
 pub eight-stores : (w : List ℕ) (at : ℕ) (r : Record) → at + 8 ≤ length w →
-    set (set (set (set (set (set (set (set w at (r .dst)) (at + 1) (r .hi)) (at + 2) (r .lo)) (at + 3) (r .src)) (at + 4) (r .seq)) (at + 5) (r .len)) (at + 6) (r .p0)) (at + 7) (r .p1) ≡ putRecord w at r
+    set (set (set (set (set (set (set (set w at (r .destination)) (at + 1) (r .hi)) (at + 2) (r .lo)) (at + 3) (r .source)) (at + 4) (r .sequence)) (at + 5) (r .len)) (at + 6) (r .«payload_hi»)) (at + 7) (r .«payload_lo») ≡ putRecord w at r
 unfolding putRecord
 eight-stores w at r h =
     let e₁ : at + 1 ≡ suc at = omega arith in

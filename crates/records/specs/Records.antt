@@ -27,28 +27,28 @@ payloadOf len upper lower = tab (payloadByte upper lower) 0 len
 -- The event of eight words.
 abbrev pub eventOf : Record → Event
 eventOf r = record {
-  source = r .src;
-  destination = r .dst;
+  source = r .source;
+  destination = r .destination;
   tick = halves (r .hi) (r .lo);
-  sequence = r .seq;
-  payload = payloadOf (r .len) (r .p0) (r .p1);
+  sequence = r .sequence;
+  payload = payloadOf (r .len) (r .«payload_hi») (r .«payload_lo»);
 }
 
 -- The eight words from `at` on, and those of a record stored there.
 unfoldable pub recordIn : List ℕ → ℕ → Record
 recordIn w at = record {
-  dst = getD w at 0;
+  destination = getD w at 0;
   hi = getD w (at + 1) 0;
   lo = getD w (at + 2) 0;
-  src = getD w (at + 3) 0;
-  seq = getD w (at + 4) 0;
+  source = getD w (at + 3) 0;
+  sequence = getD w (at + 4) 0;
   len = getD w (at + 5) 0;
-  p0 = getD w (at + 6) 0;
-  p1 = getD w (at + 7) 0;
+  «payload_hi» = getD w (at + 6) 0;
+  «payload_lo» = getD w (at + 7) 0;
 }
 
 abbrev pub wordsOf : Record → List ℕ
-wordsOf r = r .dst ∷ r .hi ∷ r .lo ∷ r .src ∷ r .seq ∷ r .len ∷ r .p0 ∷ r .p1 ∷ []
+wordsOf r = r .destination ∷ r .hi ∷ r .lo ∷ r .source ∷ r .sequence ∷ r .len ∷ r .«payload_hi» ∷ r .«payload_lo» ∷ []
 
 unfoldable pub putRecord : List ℕ → ℕ → Record → List ℕ
 putRecord w at r = take at w ++ (wordsOf r ++ drop (at + 8) w)

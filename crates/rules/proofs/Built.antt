@@ -12,8 +12,8 @@ use Rattle.rules.specs.State.{Edge, Counters, zeros}
 use Rattle.rules.specs.Answers.{Refusal, Accepted, Refused}
 use Rattle.rules.specs.Rows.{Row}
 use Rattle.rules.specs.Pending.{joins}
-use Rattle.rules.specs.Foreign.{badEdges, atTop, isUnset}
-use Rattle.rules.specs.Build.{Setup, malformedRows, destinationRows, topologyRows, buildRows, edgesOf, built, build, Made}
+use Rattle.rules.specs.Foreign.{duplicateOrSelfEdges, horizonIsMax, isUnset}
+use Rattle.rules.specs.Build.{Setup, malformedRows, destinationRows, topologyRows, buildRows, edgesOf, built, build, BuildOut}
 use Rattle.rules.proofs.Tests.{or-left, or-right, or-both, and-off, not-false}
 use Rattle.rules.proofs.Lists.{All, all-map, all-append, all-front, all-rest, all-mapped, all-of, any-none, none-any}
 use Rattle.rules.proofs.Table.{Passed, by-firsts, firsts-all}
@@ -52,11 +52,11 @@ apart L p d ds i = none-any (joins p d) (map (edge L p) ds) (all-mapped (λ e. j
     and-no true b e = e
     and-no false b e = refl
 
-once-row : (L n p : ℕ) (ds : List ℕ) → All (Fresh n p []) ds → Pairs (λ x y. y ≡ x → ⊥) ds → badEdges (map (edge L p) ds) ≡ false
-unfolding badEdges
+once-row : (L n p : ℕ) (ds : List ℕ) → All (Fresh n p []) ds → Pairs (λ x y. y ≡ x → ⊥) ds → duplicateOrSelfEdges (map (edge L p) ds) ≡ false
+unfolding duplicateOrSelfEdges
 once-row L n p [] f i = refl
 once-row L n p (d ∷ ds) f i =
-    or-both (eqb p d || any (joins p d) (map (edge L p) ds)) (badEdges (map (edge L p) ds))
+    or-both (eqb p d || any (joins p d) (map (edge L p) ds)) (duplicateOrSelfEdges (map (edge L p) ds))
     (or-both (eqb p d) (any (joins p d) (map (edge L p) ds)) (ne-eqb p d (λ e. f .0 .other (sym e))) (apart L p d ds (i .0)))
     (once-row L n p ds (f .1) (i .1))
 
@@ -75,21 +75,21 @@ unjoined p d es i = none-any (joins p d) es (all-map (After p) (λ e. joins p d 
 any-append : {A : Type 0} (f : A → Bool) (xs ys : List A) → any f xs ≡ false → any f ys ≡ false → any f (xs ++ ys) ≡ false
 any-append f xs ys a b = none-any f (xs ++ ys) (all-append (λ x. f x ≡ false) xs ys (any-none f xs a) (any-none f ys b))
 
-once-append : (p : ℕ) (es fs : List Edge) → All (From p) es → All (After p) fs → badEdges es ≡ false → badEdges fs ≡ false → badEdges (es ++ fs) ≡ false
-unfolding badEdges
+once-append : (p : ℕ) (es fs : List Edge) → All (From p) es → All (After p) fs → duplicateOrSelfEdges es ≡ false → duplicateOrSelfEdges fs ≡ false → duplicateOrSelfEdges (es ++ fs) ≡ false
+unfolding duplicateOrSelfEdges
 once-append p [] fs i j a b = b
 once-append p (e ∷ es) fs i j a b =
     let x = eqb (e .source) (e .destination) in
     let y = any (joins (e .source) (e .destination)) es in
-    let u : x || y ≡ false = or-left (x || y) (badEdges es) a in
+    let u : x || y ≡ false = or-left (x || y) (duplicateOrSelfEdges es) a in
     let v : All (After (e .source)) fs = rw (i .0) j in
-    or-both (x || any (joins (e .source) (e .destination)) (es ++ fs)) (badEdges (es ++ fs))
+    or-both (x || any (joins (e .source) (e .destination)) (es ++ fs)) (duplicateOrSelfEdges (es ++ fs))
     (or-both x (any (joins (e .source) (e .destination)) (es ++ fs)) (or-left x y u) (any-append (joins (e .source) (e .destination)) es fs (or-right x y u) (unjoined (e .source) (e .destination) fs v)))
-    (once-append p es fs (i .1) j (or-right (x || y) (badEdges es) a) b)
+    (once-append p es fs (i .1) j (or-right (x || y) (duplicateOrSelfEdges es) a) b)
 
 record Rows (n L : ℕ) (es : List Edge) : Type 0 where
   joined : All (Joined n) es
-  once : badEdges es ≡ false
+  once : duplicateOrSelfEdges es ≡ false
   bounds : All (λ (e : Edge). e .bound ≡ L) es
 
 after-rows : (L p : ℕ) (sources counts ds : List ℕ) → All (λ q. p < q) sources → All (After p) (edgesOf L sources counts ds)
@@ -99,7 +99,7 @@ after-rows L p (q ∷ sources) [] ds i = tt
 after-rows L p (q ∷ sources) (k ∷ counts) ds i = all-append (After p) (map (edge L q) (take k ds)) _ (all-mapped (After p) (edge L q) (take k ds) (all-of (λ _. p < q) (λ _. i .0) (take k ds))) (after-rows L p sources counts (drop k ds) (i .1))
 
 rows : (n L : ℕ) (sources counts ds : List ℕ) → Pairs (λ x y. x < y) sources → Passed (topologyRows n sources counts ds) → Rows n L (edgesOf L sources counts ds)
-unfolding topologyRows edgesOf badEdges
+unfolding topologyRows edgesOf duplicateOrSelfEdges
 rows n L [] counts ds r i = record { joined = tt; once = refl; bounds = tt }
 rows n L (p ∷ sources) [] ds r i = record { joined = tt; once = refl; bounds = tt }
 rows n L (p ∷ sources) (k ∷ counts) ds r i =
@@ -127,7 +127,7 @@ length-edgesOf L (p ∷ sources) (k ∷ counts) ds e s =
     omega (arith, i, length-append (map (edge L p) (take k ds)) (edgesOf L sources counts (drop k ds)), length-map (edge L p) (take k ds), length-take k ds, length-drop k ds)
 
 -- A build that is accepted passed its table.
-unfoldable Clean : Setup → Made → Type 0
+unfoldable Clean : Setup → BuildOut → Type 0
 Clean a m = m .answer ≡ Accepted → Passed (buildRows a)
 
 refused-not : (a : Setup) (c : Counters) (r : Refusal) → Clean a (record { answer = Refused r; made = none; counters = c })
@@ -164,7 +164,7 @@ rising-sources : (xs : List ℕ) → rising ltb xs ≡ true → Pairs (λ x y. x
 rising-sources xs h = rising-pairs ltb (λ x y. x < y) (λ x y e. ltb-true x y e) (λ x y z a b. omega arith) xs h
 
 pub makes : (a : Setup) (c : Counters) → build a c .answer ≡ Accepted → Makes a
-unfolding Clean built malformedRows anyOf upTo nonEmpty rising atTop isUnset
+unfolding Clean built malformedRows anyOf upTo nonEmpty rising horizonIsMax isUnset
 makes a c e =
     let p = clean a c e in
     let m = any-none (λ (t : Bool). t) (not (eqb (length (a .sources)) (length (a .counts))) ∷ not (rising ltb (a .sources)) ∷ not (eqb (sum (a .counts)) (length (a .destinations))) ∷ ltb 512 (length (a .destinations)) ∷ []) (p .1 .1 .1 .1 .0) in

@@ -2,16 +2,16 @@
 use mathlib.Core.Path.{_≡_, refl}
 use mathlib.Core.List.{List, [], _∷_}
 use Rattle.rules.specs.Rows.{Out}
-use Rattle.rules.specs.Calls.{Call, rule, carryOut}
-use Rattle.rules.specs.History.{History, onward, tell}
+use Rattle.rules.specs.Calls.{Call, rule, execute}
+use Rattle.rules.specs.History.{History, appendCall, runCalls}
 
 -- The history y, with the calls and what each gave.
 unfoldable pub logged : History → List Call → List Out → History
 logged y [] os = y
 logged y (k ∷ ks) [] = y
-logged y (k ∷ ks) (o ∷ os) = logged (onward y k o) ks os
+logged y (k ∷ ks) (o ∷ os) = logged (appendCall y k o) ks os
 
-pub told : (y : History) (ks : List Call) → tell y ks ≡ logged y ks (carryOut (y .now) (y .counters) ks)
-unfolding tell carryOut logged
+pub told : (y : History) (ks : List Call) → runCalls y ks ≡ logged y ks (execute (y .now) (y .counters) ks)
+unfolding runCalls execute logged
 told y [] = refl
-told y (k ∷ ks) = told (onward y k (rule (y .now) (y .counters) k)) ks
+told y (k ∷ ks) = told (appendCall y k (rule (y .now) (y .counters) k)) ks

@@ -7,7 +7,7 @@ use lib.Dec.{eqb}
 use lib.ListN.{length}
 use borrow.Author.Tests.{leb-false, ltb-false}
 use Rattle.rules.specs.Base.{nonEmpty}
-use Rattle.rules.specs.State.{Event, Message, Stored, unset, stored, State, Counters, numbered, withPending, withRun, withBatch, closed, poison, top, most}
+use Rattle.rules.specs.State.{Event, Message, Stored, unset, stored, State, Counters, numbered, withPending, withRun, withBatch, closed, poison, maxTick, maxCount}
 use Rattle.rules.specs.Answers
 use Rattle.rules.specs.Answers.{Refusal, refusalNumber, Accepted, Batch, Advanced, Finished, Committed, Refused}
 use Rattle.rules.specs.Rows.{Row, unless, Out, out, refuse}
@@ -16,8 +16,8 @@ use Rattle.rules.specs.Foreign.{foreign}
 use Rattle.rules.specs.Initial.{initialRows, addInitial}
 use Rattle.rules.specs.Begin.{previous, beginRows, begin}
 use Rattle.rules.specs.Refresh.{refreshed}
-use Rattle.rules.specs.Step.{takenAt, spent, rose, nullsOf, advanced, countAdvance, complete, advance, stepRun, stepAt, stepRows, step}
-use Rattle.rules.specs.HandBack.{Emission, malformed, emissionRows, processRows, poisonRows, backRows, handled, countRound, commit, commitAt, lose, handBack}
+use Rattle.rules.specs.Step.{takenAt, spent, anyAdvanced, nullMessagesOf, advanced, countAdvance, complete, advance, stepRun, stepAt, stepRows, step}
+use Rattle.rules.specs.HandBack.{Emission, malformed, emissionRows, processRows, poisonRows, handBackRows, handled, countRound, commit, commitAt, poisonWith, handBack}
 use Rattle.rules.proofs.Tests.{by-test, or-left, or-right, not-true, not-false}
 use Rattle.rules.proofs.Lists.{All, all-append, empty-nil}
 use Rattle.rules.proofs.Table.{Passed, by-firsts, firsts-all}
@@ -41,28 +41,28 @@ pub record InitialPassed (s : State) (m : Message) : Type 0 where
   pub destination : m .destination < s .n
   pub payload : length (m .payload) ≤ 16
   pub room : length (s .pending) < 512
-  pub number : s .next + 1 ≤ most
+  pub number : s .next + 1 ≤ maxCount
 
 pub record InitialCases (s : State) (c : Counters) (m : Message) (P : Out → Type 0) : Type 0 where
-  pub alien : foreign s ≡ true → P (refuse s c Answers.ForeignState)
-  pub away : (r : Refusal) → Plain r → P (refuse s c r)
+  pub foreign : foreign s ≡ true → P (refuse s c Answers.ForeignState)
+  pub refused : (r : Refusal) → Plain r → P (refuse s c r)
   pub accept : InitialPassed s m → P (out Accepted (withPending s (insert (numbered m (s .next)) (s .pending)) (suc (s .next))) c)
 
 pub by-initial : (s : State) (c : Counters) (m : Message) (P : Out → Type 0) → InitialCases s c m P → P (addInitial s c m)
 unfolding addInitial refusalNumber
 by-initial s c m P k =
     by-firsts P (initialRows s m) _ _ (
-      k .alien,
+      k .foreign,
       λ a. (
-        (λ _. k .away _ (record { not-11 = refl; not-33 = refl })),
+        (λ _. k .refused _ (record { not-11 = refl; not-33 = refl })),
         λ b. (
-          (λ _. k .away _ (record { not-11 = refl; not-33 = refl })),
+          (λ _. k .refused _ (record { not-11 = refl; not-33 = refl })),
           λ d. (
-            (λ _. k .away _ (record { not-11 = refl; not-33 = refl })),
+            (λ _. k .refused _ (record { not-11 = refl; not-33 = refl })),
             λ e. (
-              (λ _. k .away _ (record { not-11 = refl; not-33 = refl })),
+              (λ _. k .refused _ (record { not-11 = refl; not-33 = refl })),
               λ f.
-                  ((λ _. k .away _ (record { not-11 = refl; not-33 = refl })), λ g. ((λ _. k .away _ (record { not-11 = refl; not-33 = refl })), λ h. ((λ _. k .away _ (record { not-11 = refl; not-33 = refl })), λ i. ((λ _. k .away _ (record { not-11 = refl; not-33 = refl })), λ j. tt)))),
+                  ((λ _. k .refused _ (record { not-11 = refl; not-33 = refl })), λ g. ((λ _. k .refused _ (record { not-11 = refl; not-33 = refl })), λ h. ((λ _. k .refused _ (record { not-11 = refl; not-33 = refl })), λ i. ((λ _. k .refused _ (record { not-11 = refl; not-33 = refl })), λ j. tt)))),
             ),
           ),
         ),
@@ -76,7 +76,7 @@ by-initial s c m P k =
       destination = leb-false (s .n) (m .destination) (p .1 .1 .1 .1 .0);
       payload = ltb-false 16 (length (m .payload)) (p .1 .1 .1 .1 .1 .1 .0);
       room = leb-false 512 (length (s .pending)) (p .1 .1 .1 .1 .1 .1 .1 .0);
-      number = ltb-false most (s .next + 1) (p .1 .1 .1 .1 .1 .1 .1 .1 .0);
+      number = ltb-false maxCount (s .next + 1) (p .1 .1 .1 .1 .1 .1 .1 .1 .0);
     }))
 
 -- Begin
@@ -85,24 +85,24 @@ pub record BeginPassed (s : State) (h : ℕ) : Type 0 where
   pub healthy : s .poisoned ≡ false
   pub idle : s .running ≡ false
   pub later : previous (s .stored) ≤ h
-  pub below : h < top
+  pub below : h < maxTick
 
 pub record BeginCases (s : State) (c : Counters) (h b : ℕ) (P : Out → Type 0) : Type 0 where
-  pub alien : foreign s ≡ true → P (refuse s c Answers.ForeignState)
-  pub away : (r : Refusal) → Plain r → P (refuse s c r)
+  pub foreign : foreign s ≡ true → P (refuse s c Answers.ForeignState)
+  pub refused : (r : Refusal) → Plain r → P (refuse s c r)
   pub accept : BeginPassed s h → P (out Accepted (withRun s h b) c)
 
 pub by-begin : (s : State) (c : Counters) (h b : ℕ) (P : Out → Type 0) → BeginCases s c h b P → P (begin s c h b)
 unfolding begin refusalNumber
 by-begin s c h b P k =
     by-firsts P (beginRows s h) _ _
-    (k .alien, λ x. ((λ _. k .away _ (record { not-11 = refl; not-33 = refl })), λ y. ((λ _. k .away _ (record { not-11 = refl; not-33 = refl })), λ z. ((λ _. k .away _ (record { not-11 = refl; not-33 = refl })), λ u. ((λ _. k .away _ (record { not-11 = refl; not-33 = refl })), λ v. tt)))))
+    (k .foreign, λ x. ((λ _. k .refused _ (record { not-11 = refl; not-33 = refl })), λ y. ((λ _. k .refused _ (record { not-11 = refl; not-33 = refl })), λ z. ((λ _. k .refused _ (record { not-11 = refl; not-33 = refl })), λ u. ((λ _. k .refused _ (record { not-11 = refl; not-33 = refl })), λ v. tt)))))
     (λ p. k .accept (record {
       passes = p .0;
       healthy = p .1 .0;
       idle = p .1 .1 .0;
       later = ltb-false h (previous (s .stored)) (p .1 .1 .1 .0);
-      below = leb-false top h (p .1 .1 .1 .1 .0);
+      below = leb-false maxTick h (p .1 .1 .1 .1 .0);
     }))
 
 -- A step in an open run, with nothing in hand.
@@ -120,13 +120,13 @@ pub record Advances (s : State) (h b : ℕ) : Type 0 where
   pub not-spent : spent s h b ≡ false
 
 pub record StepCases (s : State) (c : Counters) (P : Out → Type 0) : Type 0 where
-  pub alien : foreign s ≡ true → P (refuse s c Answers.ForeignState)
-  pub away : (r : Refusal) → Plain r → P (refuse s c r)
+  pub foreign : foreign s ≡ true → P (refuse s c Answers.ForeignState)
+  pub refused : (r : Refusal) → Plain r → P (refuse s c r)
   pub batch : (h b : ℕ) → Steps s h b → nonEmpty (takenAt s h b .events) ≡ true → P (out (Batch (takenAt s h b .events) (s .gvt)) (withBatch s (takenAt s h b .events) (takenAt s h b .left)) c)
   pub spends : (h b : ℕ) → Steps s h b → P (out (Refused (Answers.EventBudgetExceeded b)) (closed s) c)
-  pub rise : (h b : ℕ) → Advances s h b → rose s (suc h) ≡ true → P (out (Advanced (advanced s h .gvt)) (advanced s h) (countAdvance c (nullsOf s (suc h))))
-  pub finish : (h b : ℕ) → Advances s h b → rose s (suc h) ≡ false → complete (advanced s h) (suc h) ≡ true → P (out (Finished (advanced s h .gvt)) (closed (advanced s h)) c)
-  pub stuck : (h b : ℕ) → Advances s h b → rose s (suc h) ≡ false → complete (advanced s h) (suc h) ≡ false → P (out (Refused Answers.Poisoned) (poison (advanced s h)) c)
+  pub rise : (h b : ℕ) → Advances s h b → anyAdvanced s (suc h) ≡ true → P (out (Advanced (advanced s h .gvt)) (advanced s h) (countAdvance c (nullMessagesOf s (suc h))))
+  pub finish : (h b : ℕ) → Advances s h b → anyAdvanced s (suc h) ≡ false → complete (advanced s h) (suc h) ≡ true → P (out (Finished (advanced s h .gvt)) (closed (advanced s h)) c)
+  pub last-branch : (h b : ℕ) → Advances s h b → anyAdvanced s (suc h) ≡ false → complete (advanced s h) (suc h) ≡ false → P (out (Refused Answers.Poisoned) (poison (advanced s h)) c)
 
 module _ (s : State) (c : Counters) (P : Out → Type 0) (k : StepCases s c P) where
   step-run : (h b : ℕ) → Steps s h b → P (stepRun s c h b)
@@ -134,18 +134,18 @@ module _ (s : State) (c : Counters) (P : Out → Type 0) (k : StepCases s c P) w
   step-run h b i =
       by-test P (λ t. k .batch h b i t) (λ t. by-test P (λ _. k .spends h b i) (λ u.
       by-test P (λ v. k .rise h b (record { steps = i; none-taken = t; not-spent = u }) v)
-      (λ v. by-test P (λ w. k .finish h b (record { steps = i; none-taken = t; not-spent = u }) v w) (λ w. k .stuck h b (record { steps = i; none-taken = t; not-spent = u }) v w))))
+      (λ v. by-test P (λ w. k .finish h b (record { steps = i; none-taken = t; not-spent = u }) v w) (λ w. k .last-branch h b (record { steps = i; none-taken = t; not-spent = u }) v w))))
 
   step-at : (l : Stored) → s .stored ≡ l → foreign s ≡ false → s .poisoned ≡ false → s .running ≡ true → s .batch ≡ [] → P (stepAt s c l)
   unfolding stepAt refusalNumber
-  step-at unset e a u r z = k .away _ (record { not-11 = refl; not-33 = refl })
+  step-at unset e a u r z = k .refused _ (record { not-11 = refl; not-33 = refl })
   step-at (stored h b) e a u r z = step-run h b (record { passes = a; healthy = u; open-run = r; empty = z; stored = e })
 
   pub by-step : P (step s c)
   unfolding step refusalNumber
   by-step =
       by-firsts P (stepRows s) _ _
-      (k .alien, λ a. ((λ _. k .away _ (record { not-11 = refl; not-33 = refl })), λ u. ((λ _. k .away _ (record { not-11 = refl; not-33 = refl })), λ t. tt)))
+      (k .foreign, λ a. ((λ _. k .refused _ (record { not-11 = refl; not-33 = refl })), λ u. ((λ _. k .refused _ (record { not-11 = refl; not-33 = refl })), λ t. tt)))
       (λ p. step-at (s .stored) refl (p .0) (p .1 .0) (not-false (s .running) (or-left (not (s .running)) (nonEmpty (s .batch)) (p .1 .1 .0))) (empty-nil (s .batch) (or-right (not (s .running)) (nonEmpty (s .batch)) (p .1 .1 .0))))
 
 -- A hand back that is not malformed.
@@ -162,12 +162,12 @@ pub record Commits (s : State) (mask : ℕ) (xs : List Emission) (h b : ℕ) : T
   pub stored : s .stored ≡ stored h b
 
 pub record BackCases (s : State) (c : Counters) (mask : ℕ) (xs : List Emission) (P : Out → Type 0) : Type 0 where
-  pub alien : foreign s ≡ true → P (refuse s c Answers.ForeignState)
-  pub dead : s .poisoned ≡ true → P (refuse s c Answers.Poisoned)
+  pub foreign : foreign s ≡ true → P (refuse s c Answers.ForeignState)
+  pub poisoned : s .poisoned ≡ true → P (refuse s c Answers.Poisoned)
   pub empty : s .batch ≡ [] → P (refuse s c Answers.NoBatch)
   pub malformed : P (refuse s c Answers.MalformedReply)
-  pub lost : Replies s mask xs → (r : Refusal) → Losing r → P (lose s c r)
-  pub homeless : Replies s mask xs → s .stored ≡ unset → P (refuse s c Answers.NoBatch)
+  pub lost : Replies s mask xs → (r : Refusal) → Losing r → P (poisonWith s c r)
+  pub no-horizon : Replies s mask xs → s .stored ≡ unset → P (refuse s c Answers.NoBatch)
   pub spends : (h b : ℕ) → Commits s mask xs h b → P (out (Refused (Answers.EventBudgetExceeded b)) (closed (handled s xs)) (countRound c (s .batch) xs))
   pub commits : (h b : ℕ) → Commits s mask xs h b → let u = refreshed (handled s xs) h (s .edges) (s .edges) (s .horizons) in P (out (Committed (u .gvt)) u (countRound c (s .batch) xs))
 
@@ -227,18 +227,18 @@ all-losing Q f (r ∷ rs) i = (f (r .refusal) (i .0), all-losing Q f rs (i .1))
 module _ (s : State) (c : Counters) (mask : ℕ) (xs : List Emission) (P : Out → Type 0) (k : BackCases s c mask xs P) where
   back-commit : Replies s mask xs → Passed (poisonRows s mask xs) → (l : Stored) → s .stored ≡ l → P (commitAt s c l xs)
   unfolding commitAt commit
-  back-commit i p unset e = k .homeless i e
+  back-commit i p unset e = k .no-horizon i e
   back-commit i p (stored h b) e = by-test P (λ _. k .spends h b (record { reply = i; passed = p; stored = e })) (λ _. k .commits h b (record { reply = i; passed = p; stored = e }))
 
-  back-checked : Replies s mask xs → P (unless (poisonRows s mask xs) (lose s c) (commitAt s c (s .stored) xs))
+  back-checked : Replies s mask xs → P (unless (poisonRows s mask xs) (poisonWith s c) (commitAt s c (s .stored) xs))
   back-checked i =
       by-firsts P (poisonRows s mask xs) _ _
-      (firsts-all (λ r. P (lose s c r)) (poisonRows s mask xs) (all-losing (λ r. P (lose s c r)) (k .lost i) (poisonRows s mask xs) (losing-rows s mask xs)))
+      (firsts-all (λ r. P (poisonWith s c r)) (poisonRows s mask xs) (all-losing (λ r. P (poisonWith s c r)) (k .lost i) (poisonRows s mask xs) (losing-rows s mask xs)))
       (λ p. back-commit i p (s .stored) refl)
 
   pub by-back : P (handBack s c mask xs)
   unfolding handBack
   by-back =
-      by-firsts P (backRows s mask xs) _ _
-      (k .alien, λ a. (k .dead, λ u. ((λ t. k .empty (empty-nil (s .batch) (not-true (nonEmpty (s .batch)) t))), λ t. ((λ _. k .malformed), λ w. tt))))
+      by-firsts P (handBackRows s mask xs) _ _
+      (k .foreign, λ a. (k .poisoned, λ u. ((λ t. k .empty (empty-nil (s .batch) (not-true (nonEmpty (s .batch)) t))), λ t. ((λ _. k .malformed), λ w. tt))))
       (λ p. back-checked (record { passes = p .0; healthy = p .1 .0; some-batch = not-false (nonEmpty (s .batch)) (p .1 .1 .0); formed = p .1 .1 .1 .0 }))

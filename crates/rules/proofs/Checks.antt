@@ -10,7 +10,7 @@ use Rattle.rules.specs.Base.{if_then_else_, any, anyOf, upTo}
 use Rattle.rules.specs.State.{Event, Message, State}
 use Rattle.rules.specs.Rows.{Row}
 use Rattle.rules.specs.Pending.{route}
-use Rattle.rules.specs.HandBack.{Emission, failed, fall, inBatch, malformed, minimum, messageRows, stragglerRow, emissionRows, processRows}
+use Rattle.rules.specs.HandBack.{Emission, failed, emittersFall, inBatch, malformed, minimum, messageRows, stragglerRow, emissionRows, processRows}
 use Rattle.rules.proofs.Tests.{not-false}
 use Rattle.rules.proofs.Lists.{All, all-map, all-both, all-front, all-rest, all-swap, any-none, any-some}
 use Rattle.rules.proofs.Table.{Passed}
@@ -64,7 +64,7 @@ pub record Formed (batch : List Event) (x : Emission) : Type 0 where
 pub formed : (batch : List Event) (mask : ℕ) (xs : List Emission) → malformed batch mask xs ≡ false → All (Formed batch) xs
 unfolding malformed anyOf
 formed batch mask xs h =
-    let c = any-none (λ (t : Bool). t) (fall xs ∷ any (λ (x : Emission). not (inBatch batch (x .emitter))) xs ∷ any (λ p. failed mask p && not (inBatch batch p)) (upTo 64) ∷ any (λ (x : Emission). failed mask (x .emitter)) xs ∷ any (λ (x : Emission). ltb 16 (length (x .message .payload))) xs ∷ []) h in
+    let c = any-none (λ (t : Bool). t) (emittersFall xs ∷ any (λ (x : Emission). not (inBatch batch (x .emitter))) xs ∷ any (λ p. failed mask p && not (inBatch batch p)) (upTo 64) ∷ any (λ (x : Emission). failed mask (x .emitter)) xs ∷ any (λ (x : Emission). ltb 16 (length (x .message .payload))) xs ∷ []) h in
     let a = any-none (λ (x : Emission). not (inBatch batch (x .emitter))) xs (c .1 .0) in
     let b = any-none (λ (x : Emission). ltb 16 (length (x .message .payload))) xs (c .1 .1 .1 .1 .0) in
     all-map (λ x. (not (inBatch batch (x .emitter)) ≡ false) × (ltb 16 (length (x .message .payload)) ≡ false)) (Formed batch)

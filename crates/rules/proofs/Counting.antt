@@ -2,10 +2,10 @@
 use mathlib.Core.Path.{refl}
 use Rattle.rules.specs.Opened.{all-rules}
 use Rattle.rules.specs.Rehearsals.{pair}
-use Rattle.rules.specs.Counting.{Counts, told, numbers}
+use Rattle.rules.specs.Counting.{Counts, entriesOf, numbers}
 
 pub counted : Counts
-unfolding all-rules pair told numbers
+unfolding all-rules pair entriesOf numbers
 counted = record {
   c1 = refl;
   c3 = refl;

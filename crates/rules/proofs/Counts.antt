@@ -11,7 +11,7 @@ use Rattle.rules.specs.State.{Event}
 use Rattle.rules.specs.Answers.{Answer, Batch, number}
 use Rattle.rules.specs.HandBack.{Emission, isRemote}
 use Rattle.rules.specs.Calls.{Call}
-use Rattle.rules.specs.History.{Entry, isHandBack, emissions, isAdvanced, isBatch, events, initials, begins, adds, inHand, commits, handled, emitted, remote, rounds, nulls, workers, used}
+use Rattle.rules.specs.History.{Entry, isHandBack, emissions, isAdvanced, isBatch, events, initials, begins, adds, inHand, commits, handled, emitted, remote, rounds, nullMessages, workerCount, used}
 
 -- A test that fails or holds of one more.
 pub counts-off : {A : Type 0} (f : A → Bool) (x : A) (xs : List A) → f x ≡ false → count f (x ∷ xs) ≡ count f xs
@@ -30,39 +30,39 @@ pub record Unhandled (es fs : List Entry) : Type 0 where
   pub handled : handled fs ≡ handled es
   pub emitted : emitted fs ≡ emitted es
   pub remote : remote fs ≡ remote es
-  pub workers : workers fs ≡ workers es
+  pub «worker_count» : workerCount fs ≡ workerCount es
 
 pub unhandled : (e : Entry) (es : List Entry) → commits e ≡ false → Unhandled es (e ∷ es)
-unfolding if_then_else_ handled emitted remote workers
-unhandled e es c = record { handled = rw c (omega arith); emitted = rw c (omega arith); remote = rw c (omega arith); workers = rw c }
+unfolding if_then_else_ handled emitted remote workerCount
+unhandled e es c = record { handled = rw c (omega arith); emitted = rw c (omega arith); remote = rw c (omega arith); «worker_count» = rw c }
 
 -- One that commits counts what was in hand and its emissions.
 pub record Handles (xs : List Emission) (es fs : List Entry) : Type 0 where
   pub handled : handled fs ≡ handled es + length (inHand es)
   pub emitted : emitted fs ≡ emitted es + length xs
   pub remote : remote fs ≡ remote es + count isRemote xs
-  pub workers : workers fs ≡ max (workers es) (length (inHand es))
+  pub «worker_count» : workerCount fs ≡ max (workerCount es) (length (inHand es))
 
 pub handles : (e : Entry) (es : List Entry) → commits e ≡ true → Handles (emissions (e .call)) es (e ∷ es)
-unfolding if_then_else_ handled emitted remote workers
-handles e es c = record { handled = rw c (omega arith); emitted = rw c (omega arith); remote = rw c (omega arith); workers = rw c }
+unfolding if_then_else_ handled emitted remote workerCount
+handles e es c = record { handled = rw c (omega arith); emitted = rw c (omega arith); remote = rw c (omega arith); «worker_count» = rw c }
 
 -- Rounds and null messages: k more rounds and j more null messages.
 pub record Turns (k j : ℕ) (es fs : List Entry) : Type 0 where
   pub rounds : rounds fs ≡ rounds es + k
-  pub nulls : nulls fs ≡ nulls es + j
+  pub «null_messages» : nullMessages fs ≡ nullMessages es + j
 
 pub no-turn : (e : Entry) (es : List Entry) → commits e ≡ false → isAdvanced (e .answer) ≡ false → Turns 0 0 es (e ∷ es)
-unfolding if_then_else_ rounds nulls
-no-turn e es c a = record { rounds = omega (arith, counts-off commits e es c, counts-off (λ x. isAdvanced (x .answer)) e es a); nulls = rw a (omega arith) }
+unfolding if_then_else_ rounds nullMessages
+no-turn e es c a = record { rounds = omega (arith, counts-off commits e es c, counts-off (λ x. isAdvanced (x .answer)) e es a); «null_messages» = rw a (omega arith) }
 
 pub commit-turn : (e : Entry) (es : List Entry) → commits e ≡ true → isAdvanced (e .answer) ≡ false → Turns 1 0 es (e ∷ es)
-unfolding if_then_else_ rounds nulls
-commit-turn e es c a = record { rounds = omega (arith, counts-on commits e es c, counts-off (λ x. isAdvanced (x .answer)) e es a); nulls = rw a (omega arith) }
+unfolding if_then_else_ rounds nullMessages
+commit-turn e es c a = record { rounds = omega (arith, counts-on commits e es c, counts-off (λ x. isAdvanced (x .answer)) e es a); «null_messages» = rw a (omega arith) }
 
 pub advance-turn : (e : Entry) (es : List Entry) → commits e ≡ false → isAdvanced (e .answer) ≡ true → Turns 1 (e .raises) es (e ∷ es)
-unfolding if_then_else_ rounds nulls
-advance-turn e es c a = record { rounds = omega (arith, counts-off commits e es c, counts-on (λ x. isAdvanced (x .answer)) e es a); nulls = rw a (omega arith) }
+unfolding if_then_else_ rounds nullMessages
+advance-turn e es c a = record { rounds = omega (arith, counts-off commits e es c, counts-on (λ x. isAdvanced (x .answer)) e es a); «null_messages» = rw a (omega arith) }
 
 -- Initial events.
 pub no-initial : (e : Entry) (es : List Entry) → adds e ≡ false → initials (e ∷ es) ≡ initials es

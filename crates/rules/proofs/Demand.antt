@@ -15,7 +15,7 @@ use Rattle.rules.specs.Refresh.{refreshed}
 use Rattle.rules.specs.Reads.{read, readCounters, readPending}
 use Rattle.rules.specs.Calls.{Call, AddInitial, Begin, Step, HandBack, rule}
 use Rattle.rules.specs.History
-use Rattle.rules.specs.History.{History, fresh, onward, tell, L, E, initials, inHand, emitted, remote, rounds, nulls, workers, used}
+use Rattle.rules.specs.History.{History, emptyHistory, appendCall, runCalls, L, E, initials, inHand, emitted, remote, rounds, nullMessages, workerCount, used}
 use Rattle.rules.specs.Demand.{Never, Demanded}
 use Rattle.rules.proofs.Lists.{All, all-map}
 use Rattle.rules.proofs.Cases.{by-initial, by-begin, by-step, by-back}
@@ -24,7 +24,7 @@ use Rattle.rules.proofs.ShapeCalls.{Shapes, shape-kept}
 use Rattle.rules.proofs.Tally.{Tallied, Tells}
 use Rattle.rules.proofs.TallyCalls.{tells}
 use Rattle.rules.proofs.Fronts.{length-edges}
-use Rattle.rules.proofs.Pace.{Paced, paced-built, few-nulls, few-rounds}
+use Rattle.rules.proofs.Pace.{Paced, paced-built, few-null-messages, few-rounds}
 use Rattle.rules.proofs.PaceCalls.{pace-kept}
 use Rattle.rules.proofs.Fair.{Reach, Capped}
 use Rattle.rules.proofs.FairCalls.{FairIn, fair-kept}
@@ -43,24 +43,24 @@ Fixes look k o = Fixed look k (o .after)
 
 fixed-kept : (look k : ℕ) (s : State) (c : Counters) (call : Call) → Fixed look k s → Fixes look k (rule s c call)
 unfolding rule Fixes refreshed
-fixed-kept look k s c (AddInitial m) i = by-initial s c m (λ o. Fixes look k o) (record { alien = λ _. i; away = λ _ _. i; accept = λ _. record { lookahead = i .lookahead; edges = i .edges } })
-fixed-kept look k s c (Begin h b) i = by-begin s c h b (λ o. Fixes look k o) (record { alien = λ _. i; away = λ _ _. i; accept = λ _. record { lookahead = i .lookahead; edges = i .edges } })
+fixed-kept look k s c (AddInitial m) i = by-initial s c m (λ o. Fixes look k o) (record { foreign = λ _. i; refused = λ _ _. i; accept = λ _. record { lookahead = i .lookahead; edges = i .edges } })
+fixed-kept look k s c (Begin h b) i = by-begin s c h b (λ o. Fixes look k o) (record { foreign = λ _. i; refused = λ _ _. i; accept = λ _. record { lookahead = i .lookahead; edges = i .edges } })
 fixed-kept look k s c Step i = by-step s c (λ o. Fixes look k o) (record {
-  alien = λ _. i;
-  away = λ _ _. i;
+  foreign = λ _. i;
+  refused = λ _ _. i;
   batch = λ _ _ _ _. record { lookahead = i .lookahead; edges = i .edges };
   spends = λ _ _ _. record { lookahead = i .lookahead; edges = i .edges };
   rise = λ h _ _ _. record { lookahead = i .lookahead; edges = length-edges s (suc h) (s .edges) ∙ i .edges };
   finish = λ h _ _ _ _. record { lookahead = i .lookahead; edges = length-edges s (suc h) (s .edges) ∙ i .edges };
-  stuck = λ h _ _ _ _. record { lookahead = i .lookahead; edges = length-edges s (suc h) (s .edges) ∙ i .edges };
+  last-branch = λ h _ _ _ _. record { lookahead = i .lookahead; edges = length-edges s (suc h) (s .edges) ∙ i .edges };
 })
 fixed-kept look k s c (HandBack mask xs) i = by-back s c mask xs (λ o. Fixes look k o) (record {
-  alien = λ _. i;
-  dead = λ _. i;
+  foreign = λ _. i;
+  poisoned = λ _. i;
   empty = λ _. i;
   malformed = i;
   lost = λ _ _ _. record { lookahead = i .lookahead; edges = i .edges };
-  homeless = λ _ _. i;
+  no-horizon = λ _ _. i;
   spends = λ _ _ _. record { lookahead = i .lookahead; edges = i .edges };
   commits = λ _ _ _. record { lookahead = i .lookahead; edges = i .edges };
 })
@@ -75,7 +75,7 @@ pub record Sound (a : Setup) (y : History) : Type 0 where
   pub no-foreign : Never 11 (y .entries)
   pub no-straggler : Never 33 (y .entries)
 
-sound-on : (a : Setup) (y : History) (k : Call) → Sound a y → Sound a (onward y k (rule (y .now) (y .counters) k))
+sound-on : (a : Setup) (y : History) (k : Call) → Sound a y → Sound a (appendCall y k (rule (y .now) (y .counters) k))
 unfolding Shapes Tells Fixes Not FairIn
 sound-on a y k i =
     let p = proper (y .now) (y .counters) (given (y .entries)) k (i .shaped) (i .fair) in
@@ -89,13 +89,13 @@ sound-on a y k i =
       no-straggler = (p .no-straggler, i .no-straggler);
     }
 
-pub sound : (a : Setup) (y : History) (ks : List Call) → Sound a y → Sound a (tell y ks)
-unfolding tell
+pub sound : (a : Setup) (y : History) (ks : List Call) → Sound a y → Sound a (runCalls y ks)
+unfolding runCalls
 sound a y [] i = i
-sound a y (k ∷ ks) i = sound a (onward y k (rule (y .now) (y .counters) k)) ks (sound-on a y k i)
+sound a y (k ∷ ks) i = sound a (appendCall y k (rule (y .now) (y .counters) k)) ks (sound-on a y k i)
 
 -- What build makes.
-fair-built : (a : Setup) → All (λ (e : Edge). e .bound ≡ a .lookahead) (built a .edges) → FairIn (fresh a)
+fair-built : (a : Setup) → All (λ (e : Edge). e .bound ≡ a .lookahead) (built a .edges) → FairIn (emptyHistory a)
 unfolding FairIn given built upTo
 fair-built a b =
     let hs = noughts 0 (a .n) in
@@ -111,14 +111,14 @@ fair-built a b =
       opened = λ e. absurd (true≢false (sym e));
     }
 
-tallied-built : (a : Setup) → Tallied (fresh a)
-unfolding built count inHand initials emitted History.handled remote rounds nulls workers used
+tallied-built : (a : Setup) → Tallied (emptyHistory a)
+unfolding built count inHand initials emitted History.handled remote rounds nullMessages workerCount used
 tallied-built a = record {
   kept = record { hand = refl; lost = λ _. refl; sum = λ _. refl; used = omega arith };
-  counted = record { handled = omega arith; emitted = omega arith; remote = omega arith; rounds = omega arith; nulls = omega arith; workers = refl };
+  counted = record { handled = omega arith; emitted = omega arith; remote = omega arith; rounds = omega arith; «null_messages» = omega arith; «worker_count» = refl };
 }
 
-pub sound-built : (a : Setup) (c : Counters) → build a c .answer ≡ Accepted → Sound a (fresh a)
+pub sound-built : (a : Setup) (c : Counters) → build a c .answer ≡ Accepted → Sound a (emptyHistory a)
 sound-built a c e =
     let m = makes a c e in
     record {
@@ -131,7 +131,7 @@ sound-built a c e =
       no-straggler = tt;
     }
   where
-    paced-fresh : (a : Setup) → Makes a → Paced (fresh a)
+    paced-fresh : (a : Setup) → Makes a → Paced (emptyHistory a)
     paced-fresh a m = unfold built in paced-built (built a) _ (m .shaped) refl (m .bounds)
 
     fixed-built : (a : Setup) → Makes a → Fixed (L a) (E a) (built a)
@@ -153,13 +153,13 @@ demanded a y i =
       conserved = λ h. omega (arith, i .tallied .kept .sum h, ap length (i .tallied .kept .hand));
       pending = read-answers (y .now) (y .counters) (Pending (length (y .now .pending))) f;
       few-rounds = rw (i .fixed .lookahead) at (few-rounds y (i .shaped) (i .paced));
-      few-nulls = rw (i .fixed .lookahead, i .fixed .edges) at (few-nulls y (i .shaped) (i .paced));
+      few-null-messages = rw (i .fixed .lookahead, i .fixed .edges) at (few-null-messages y (i .shaped) (i .paced));
       counters = read-answers (y .now) (y .counters) (Counted (y .counters) (y .now .used)) f
-          ∙ (λ t. Read (Counted (record { handled = k .handled t; emitted = k .emitted t; remote = k .remote t; rounds = k .rounds t; nulls = k .nulls t; workers = k .workers t }) (i .tallied .kept .used t)));
+          ∙ (λ t. Read (Counted (record { handled = k .handled t; emitted = k .emitted t; remote = k .remote t; rounds = k .rounds t; «null_messages» = k .«null_messages» t; «worker_count» = k .«worker_count» t }) (i .tallied .kept .used t)));
       no-foreign = i .no-foreign;
       no-straggler = i .no-straggler;
     }
 
 -- The theorem.
-pub demand-3 : (a : Setup) (c : Counters) → build a c .answer ≡ Accepted → (ks : List Call) → Demanded a (tell (fresh a) ks)
-demand-3 a c e ks = demanded a (tell (fresh a) ks) (sound a (fresh a) ks (sound-built a c e))
+pub demand-3 : (a : Setup) (c : Counters) → build a c .answer ≡ Accepted → (ks : List Call) → Demanded a (runCalls (emptyHistory a) ks)
+demand-3 a c e ks = demanded a (runCalls (emptyHistory a) ks) (sound a (emptyHistory a) ks (sound-built a c e))

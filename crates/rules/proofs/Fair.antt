@@ -6,10 +6,10 @@ use native.Mathlib.Omega.{arith}
 use native.Mathlib.Nat.{add-zero, add-suc, suc-add, zero-add}
 use lib.ListN.{length, getD}
 use borrow.Author.Tests.{eqb-false}
-use Rattle.rules.specs.State.{Event, Message, Edge, State, top}
+use Rattle.rules.specs.State.{Event, Message, Edge, State, maxTick}
 use Rattle.rules.specs.Frontiers.{safe}
 use Rattle.rules.specs.Refresh.{raised}
-use Rattle.rules.specs.Step.{aim, raisedEdges}
+use Rattle.rules.specs.Step.{inputFrontier, raisedEdges}
 use Rattle.rules.proofs.Tests.{by-test}
 use Rattle.rules.proofs.Lists.{All, all-map, all-both}
 use Rattle.rules.proofs.Shape.{Joined}
@@ -54,11 +54,11 @@ Reach hs L e = e .bound ≤ getD hs (e .source) 0 + L
 pub reach-more : (to : ℕ → ℕ) (hs : List ℕ) (L : ℕ) (es : List Edge) → All (Reach hs L) es → All (Reach (raised to 0 hs) L) es
 reach-more to hs L es i = all-map (Reach hs L) (Reach (raised to 0 hs) L) (λ e r. omega (arith, r, raised-ge to 0 hs (e .source))) es i
 
-pub reach-raised : (s : State) (H : ℕ) (es : List Edge) → H ≤ top → length (s .horizons) ≡ s .n → All (Joined (s .n)) es → All (Reach (s .horizons) (s .lookahead)) es → All (Reach (raised (aim s H) 0 (s .horizons)) (s .lookahead)) (raisedEdges s H es)
+pub reach-raised : (s : State) (H : ℕ) (es : List Edge) → H ≤ maxTick → length (s .horizons) ≡ s .n → All (Joined (s .n)) es → All (Reach (s .horizons) (s .lookahead)) es → All (Reach (raised (inputFrontier s H) 0 (s .horizons)) (s .lookahead)) (raisedEdges s H es)
 unfolding raisedEdges
 reach-raised s H [] t l w i = tt
 reach-raised s H (e ∷ es) t l w i = (
-  omega (arith, i .0, raised-ge (aim s H) 0 (s .horizons) (e .source), raised-at (aim s H) (s .horizons) (e .source) (omega (arith, w .0 .source, l)), bound-high s H (e .source) t),
+  omega (arith, i .0, raised-ge (inputFrontier s H) 0 (s .horizons) (e .source), raised-at (inputFrontier s H) (s .horizons) (e .source) (omega (arith, w .0 .source, l)), bound-high s H (e .source) t),
   reach-raised s H es t l (w .1) (i .1),
 )
 

@@ -11,14 +11,14 @@ use Rattle.rules.specs.Rows.{Row, Out, out}
 use Rattle.rules.specs.Pending.{insert}
 use Rattle.rules.specs.Frontiers.{safe}
 use Rattle.rules.specs.Refresh.{refreshTo, refreshed}
-use Rattle.rules.specs.Step.{takenAt, aim, newHorizons, advanced}
+use Rattle.rules.specs.Step.{takenAt, inputFrontier, newHorizons, advanced}
 use Rattle.rules.specs.HandBack.{Emission, processRows, messages, handled}
 use Rattle.rules.specs.Calls.{Call, AddInitial, Begin, Step, HandBack, rule}
-use Rattle.rules.specs.History.{History, onward, events}
+use Rattle.rules.specs.History.{History, appendCall, events}
 use Rattle.rules.proofs.Tests.{not-both}
 use Rattle.rules.proofs.Lists.{all-front}
 use Rattle.rules.proofs.Cases.{by-initial, by-begin, Steps, StepCases, by-step, Commits, BackCases, by-back}
-use Rattle.rules.proofs.Shape.{Shaped, passes-11, homeless-never}
+use Rattle.rules.proofs.Shape.{Shaped, passes-11, no-horizon-never}
 use Rattle.rules.proofs.ShapeCalls.{batch-runs, shape-handled}
 use Rattle.rules.proofs.Handed.{given}
 use Rattle.rules.proofs.FairMoves.{Fair, fair-insert, fair-batch, fair-raised, fair-bounds, fair-empty, fair-closed, below-top, fair-queued, timely}
@@ -30,7 +30,7 @@ unfoldable pub FairIn : History → Type 0
 FairIn y = FairAt (given (y .entries)) (y .now)
 
 unfoldable pub Handing : History → Call → Out → Type 0
-Handing y k o = FairIn (onward y k o)
+Handing y k o = FairIn (appendCall y k o)
 
 -- A call that hands out nothing: what it leaves is fair for the same events handed out.
 nothing-handed : (y : History) (k : Call) (a : Answer) (t : State) (c : Counters) → events a ≡ [] → FairAt (given (y .entries)) t → Handing y k (out a t c)
@@ -57,13 +57,13 @@ module _ (y : History) (w : Shaped (y .now)) (i : FairAt (given (y .entries)) (y
 
   -- The fronts after an advance, with nothing in hand.
   moved : (h b : ℕ) → Steps (y .now) h b → FairAt (given (y .entries)) (poison (advanced (y .now) h))
-  unfolding aim refreshTo refreshed
+  unfolding inputFrontier refreshTo refreshed
   moved h b k =
       let s = y .now in
       let g = given (y .entries) in
       let o : s .initial ≡ false = i .opened (k .open-run) in
       let hs : List ℕ = newHorizons s (suc h) in
-      let one = fair-raised g (s .pending) (s .edges) (s .horizons) (s .lookahead) (suc h) (s .initial) (s .running) (aim s (suc h)) (λ _. suc h) (w .queued .order) o (λ p. omega arith) (λ p. omega arith) (fair-empty g (s .pending) (s .batch) (s .edges) (s .horizons) (s .lookahead) (s .initial) (s .running) i) in
+      let one = fair-raised g (s .pending) (s .edges) (s .horizons) (s .lookahead) (suc h) (s .initial) (s .running) (inputFrontier s (suc h)) (λ _. suc h) (w .queued .order) o (λ p. omega arith) (λ p. omega arith) (fair-empty g (s .pending) (s .batch) (s .edges) (s .horizons) (s .lookahead) (s .initial) (s .running) i) in
       let two = fair-raised g (s .pending) (s .edges) hs (s .lookahead) (suc h) (s .initial) (s .running) (refreshTo (s .edges) (suc h) (s .pending)) (safe (s .edges) (suc h)) (w .queued .order) o (λ p. omega arith) (λ p. omega arith) one in
       fair-bounds s (suc h) g hs (refreshTo (s .edges) (suc h) (s .pending)) refl (below-top (s .stored) h b (k .stored) (w .runs .below)) w (i .reach) two
 
@@ -75,13 +75,13 @@ module _ (y : History) (w : Shaped (y .now)) (i : FairAt (given (y .entries)) (y
   step-cases : StepCases (y .now) (y .counters) (Handing y Step)
   unfolding events
   step-cases = record {
-    alien = λ f. not-both f (passes-11 (y .now) w);
-    away = λ r _. stays Step r (y .counters);
+    foreign = λ f. not-both f (passes-11 (y .now) w);
+    refused = λ r _. stays Step r (y .counters);
     batch = λ h b k _. step-batch h b k;
     spends = λ h b k. nothing-handed y Step (Refused _) (closed (y .now)) (y .counters) refl (fair-closed (given (y .entries)) (y .now .pending) (y .now .batch) (y .now .edges) (y .now .horizons) (y .now .lookahead) (y .now .initial) (y .now .running) i);
     rise = λ h b k _. nothing-handed y Step (Advanced _) (advanced (y .now) h) _ refl (unmoved-batch h b (k .steps));
     finish = λ h b k _ _. nothing-handed y Step (Finished _) (closed (advanced (y .now) h)) (y .counters) refl (unfold refreshed in fair-closed (given (y .entries)) (y .now .pending) (y .now .batch) (advanced (y .now) h .edges) (advanced (y .now) h .horizons) (y .now .lookahead) (y .now .initial) (y .now .running) (unmoved-batch h b (k .steps)));
-    stuck = λ h b k _ _. nothing-handed y Step (Refused _) (poison (advanced (y .now) h)) (y .counters) refl (moved h b (k .steps));
+    last-branch = λ h b k _ _. nothing-handed y Step (Refused _) (poison (advanced (y .now) h)) (y .counters) refl (moved h b (k .steps));
   }
 
   queued-up : (mask : ℕ) (xs : List Emission) (h b : ℕ) → Commits (y .now) mask xs h b → FairAt (given (y .entries)) (handled (y .now) xs)
@@ -101,23 +101,23 @@ module _ (y : History) (w : Shaped (y .now)) (i : FairAt (given (y .entries)) (y
   back-cases mask xs =
       let k = HandBack mask xs in
       record {
-        alien = λ f. not-both f (passes-11 (y .now) w);
-        dead = λ _. stays k _ (y .counters);
+        foreign = λ f. not-both f (passes-11 (y .now) w);
+        poisoned = λ _. stays k _ (y .counters);
         empty = λ _. stays k _ (y .counters);
         malformed = stays k _ (y .counters);
         lost = λ _ r _. nothing-handed y k (Refused r) (poison (y .now)) (y .counters) refl (fair-empty (given (y .entries)) (y .now .pending) (y .now .batch) (y .now .edges) (y .now .horizons) (y .now .lookahead) (y .now .initial) (y .now .running) i);
-        homeless = λ j u. homeless-never (y .now) w (j .some-batch) u;
+        no-horizon = λ j u. no-horizon-never (y .now) w (j .some-batch) u;
         spends = λ h b c. nothing-handed y k (Refused _) (closed (handled (y .now) xs)) _ refl (let t = handled (y .now) xs in fair-closed (given (y .entries)) (t .pending) [] (t .edges) (t .horizons) (t .lookahead) (t .initial) (t .running) (queued-up mask xs h b c));
         commits = λ h b c. nothing-handed y k (Committed _) _ _ refl (refreshed-up mask xs h b c (shape-handled (y .now) (y .counters) w mask xs h b c));
       }
 
 fair-call : (y : History) (k : Call) → Shaped (y .now) → FairIn y → Handing y k (rule (y .now) (y .counters) k)
 unfolding rule FairIn
-fair-call y (AddInitial m) w i = by-initial (y .now) (y .counters) m (λ o. Handing y (AddInitial m) o) (record { alien = λ f. not-both f (passes-11 (y .now) w); away = λ r _. stays y w i (AddInitial m) r (y .counters); accept = λ p. initial-accept y w i m _ (p .opened) })
-fair-call y (Begin h b) w i = by-begin (y .now) (y .counters) h b (λ o. Handing y (Begin h b) o) (record { alien = λ f. not-both f (passes-11 (y .now) w); away = λ r _. stays y w i (Begin h b) r (y .counters); accept = λ _. begin-accept y w i h b })
+fair-call y (AddInitial m) w i = by-initial (y .now) (y .counters) m (λ o. Handing y (AddInitial m) o) (record { foreign = λ f. not-both f (passes-11 (y .now) w); refused = λ r _. stays y w i (AddInitial m) r (y .counters); accept = λ p. initial-accept y w i m _ (p .opened) })
+fair-call y (Begin h b) w i = by-begin (y .now) (y .counters) h b (λ o. Handing y (Begin h b) o) (record { foreign = λ f. not-both f (passes-11 (y .now) w); refused = λ r _. stays y w i (Begin h b) r (y .counters); accept = λ _. begin-accept y w i h b })
 fair-call y Step w i = by-step (y .now) (y .counters) (λ o. Handing y Step o) (step-cases y w i)
 fair-call y (HandBack mask xs) w i = by-back (y .now) (y .counters) mask xs (λ o. Handing y (HandBack mask xs) o) (back-cases y w i mask xs)
 
-pub fair-kept : (y : History) (k : Call) → Shaped (y .now) → FairIn y → FairIn (onward y k (rule (y .now) (y .counters) k))
+pub fair-kept : (y : History) (k : Call) → Shaped (y .now) → FairIn y → FairIn (appendCall y k (rule (y .now) (y .counters) k))
 unfolding Handing
 fair-kept y k w i = fair-call y k w i

@@ -7,12 +7,12 @@ use native.Mathlib.Omega.{arith}
 use lib.ListN.{getD}
 use borrow.Author.Tests.{leb-false}
 use Rattle.rules.specs.Base.{upFrom, rising}
-use Rattle.rules.specs.State.{Event, Message, Edge, Stored, stored, State, top}
+use Rattle.rules.specs.State.{Event, Message, Edge, Stored, stored, State, maxTick}
 use Rattle.rules.specs.Pending.{before, insert, firstTick, queue}
 use Rattle.rules.specs.Frontiers.{safe}
-use Rattle.rules.specs.Foreign.{atTop}
+use Rattle.rules.specs.Foreign.{horizonIsMax}
 use Rattle.rules.specs.Refresh.{raised}
-use Rattle.rules.specs.Step.{take, aim, newEdges}
+use Rattle.rules.specs.Step.{takeEligible, inputFrontier, newEdges}
 use Rattle.rules.specs.HandBack.{Emission, malformed, processRows, messages}
 use Rattle.rules.proofs.Tests.{not-both}
 use Rattle.rules.proofs.Lists.{All, all-map, all-both, all-mapped}
@@ -21,7 +21,7 @@ use Rattle.rules.proofs.Shape.{Shaped}
 use Rattle.rules.proofs.Order.{all-insert, sorted}
 use Rattle.rules.proofs.Take.{take-all, take-safe}
 use Rattle.rules.proofs.Checks.{Routed, each-emission}
-use Rattle.rules.proofs.Unstuck.{first-least}
+use Rattle.rules.proofs.LastBranch.{first-least}
 use Rattle.rules.proofs.Fair.{Floor, floor-raised, Reach, reach-more, reach-raised, Capped, capped-raised, capped-bounds, Under, safe-under, under-raised, Last, InHand}
 use Rattle.rules.proofs.Emit.{fine}
 use Rattle.rules.proofs.Handed.{handedOn, all-handed, Ordered, Above, take-good, take-last, Timely, queue-floor, queue-above}
@@ -59,9 +59,9 @@ in-hand : (hs : List ℕ) (g bs : List Event) → All (Floor hs) bs → All (Las
 in-hand hs g bs i j = all-map (λ b. Floor hs b × Last g b) (InHand hs g) (λ b k. record { floor = k .0; last = k .1 }) bs (all-both (Floor hs) (Last g) bs i j)
 
 pub fair-batch : (g q bs : List Event) (es : List Edge) (hs : List ℕ) (L H n k : ℕ) (initial running : Bool) → rising before q ≡ true → running ≡ true → Fair g q bs es hs L initial running
-    → Fair (handedOn (take es H (upFrom 0 n) k q .events) g) (take es H (upFrom 0 n) k q .left) (take es H (upFrom 0 n) k q .events) es hs L initial running
+    → Fair (handedOn (takeEligible es H (upFrom 0 n) k q .events) g) (takeEligible es H (upFrom 0 n) k q .left) (takeEligible es H (upFrom 0 n) k q .events) es hs L initial running
 fair-batch g q bs es hs L H n k initial running s u i =
-    let taken : List Event = take es H (upFrom 0 n) k q .events in
+    let taken : List Event = takeEligible es H (upFrom 0 n) k q .events in
     let t = take-good es H (upFrom 0 n) k q g (sorted q s) (i .above) (i .order) in
     let f = take-all (Floor hs) es H (upFrom 0 n) k q (i .floor) in
     record {
@@ -99,7 +99,7 @@ fair-raised g q es hs L H initial running to d s o a b i = record {
 }
 
 -- The bounds rise after the local horizons did.
-pub fair-bounds : (s : State) (H : ℕ) (g : List Event) (hs : List ℕ) (to : ℕ → ℕ) → hs ≡ raised (aim s H) 0 (s .horizons) → H ≤ top → Shaped s → All (Reach (s .horizons) (s .lookahead)) (s .edges)
+pub fair-bounds : (s : State) (H : ℕ) (g : List Event) (hs : List ℕ) (to : ℕ → ℕ) → hs ≡ raised (inputFrontier s H) 0 (s .horizons) → H ≤ maxTick → Shaped s → All (Reach (s .horizons) (s .lookahead)) (s .edges)
     → Fair g (s .pending) [] (s .edges) (raised to 0 hs) (s .lookahead) (s .initial) (s .running) → Fair g (s .pending) [] (newEdges s H) (raised to 0 hs) (s .lookahead) (s .initial) (s .running)
 fair-bounds s H g hs to e t w r i = record {
   order = i .order;
@@ -119,9 +119,9 @@ fair-empty g q bs es hs L initial running i = record { order = i .order; above =
 pub fair-closed : (g q bs : List Event) (es : List Edge) (hs : List ℕ) (L : ℕ) (initial running : Bool) → Fair g q bs es hs L initial running → Fair g q bs es hs L initial false
 fair-closed g q bs es hs L initial running i = record { order = i .order; above = i .above; floor = i .floor; held = i .held; reach = i .reach; capped = i .capped; under = i .under; fresh = i .fresh; opened = λ e. absurd (true≢false (sym e)) }
 
-pub below-top : (l : Stored) (h b : ℕ) → l ≡ stored h b → atTop l ≡ false → suc h ≤ top
-unfolding atTop
-below-top l h b e a = leb-false top h (ap atTop (sym e) ∙ a)
+pub below-top : (l : Stored) (h b : ℕ) → l ≡ stored h b → horizonIsMax l ≡ false → suc h ≤ maxTick
+unfolding horizonIsMax
+below-top l h b e a = leb-false maxTick h (ap horizonIsMax (sym e) ∙ a)
 
 -- The emissions of a round, all in time, are queued.
 pub fair-queued : (g q bs : List Event) (es : List Edge) (hs : List ℕ) (L : ℕ) (initial running : Bool) (k : ℕ) (ms : List Message) → All (Timely hs g) ms → Fair g q bs es hs L initial running → Fair g (queue q k ms) [] es hs L initial running

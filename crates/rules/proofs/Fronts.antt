@@ -8,11 +8,11 @@ use lib.Dec.{leb, ltb, eqb}
 use lib.ListN.{length}
 use borrow.Author.Tests.{ltb-true, ltb-false, leb-true, leb-false, eqb-true, eqb-false, le-leb, le-ltb}
 use Rattle.rules.specs.Base.{if_then_else_, Maybe, none, some, isSome, upFrom, upTo, any, every, nonEmpty}
-use Rattle.rules.specs.State.{Event, Edge, State, top}
+use Rattle.rules.specs.State.{Event, Edge, State, maxTick}
 use Rattle.rules.specs.Pending.{firstOf, tickOr, firstTick}
 use Rattle.rules.specs.Frontiers.{safe, below, eligible, anyEligible}
 use Rattle.rules.specs.Refresh.{raised}
-use Rattle.rules.specs.Step.{takeOne, take, aim, boundTo, raisedEdges, countRaised, anyRaised}
+use Rattle.rules.specs.Step.{takeEligibleAt, takeEligible, inputFrontier, newBound, raisedEdges, countRaised, anyRaised}
 use Rattle.rules.proofs.Tests.{by-test, by-bool, or-both, and-left, and-right, and-both, and-other}
 use Rattle.rules.proofs.Lists.{All, any-none}
 use Rattle.rules.proofs.Cases.{Advances}
@@ -24,16 +24,16 @@ lowest [] c = c
 lowest (e ∷ es) c = min (e .bound) (lowest es c)
 
 -- With room, an empty batch means that nobody is eligible.
-empty-take : (es : List Edge) (H : ℕ) (q : List Event) (k : ℕ) (ps : List ℕ) → nonEmpty (take es H ps (suc k) q .events) ≡ false → anyEligible es H q ps ≡ false
-unfolding take takeOne anyEligible any nonEmpty isSome
+empty-take : (es : List Edge) (H : ℕ) (q : List Event) (k : ℕ) (ps : List ℕ) → nonEmpty (takeEligible es H ps (suc k) q .events) ≡ false → anyEligible es H q ps ≡ false
+unfolding takeEligible takeEligibleAt anyEligible any nonEmpty isSome
 empty-take es H q k [] h = refl
 empty-take es H q k (p ∷ ps) h = go (eligible es H q p) h (empty-take es H q k ps)
   where
-    go : (m : Maybe Event) → nonEmpty (takeOne m p q (suc k) (take es H ps) .events) ≡ false → (nonEmpty (take es H ps (suc k) q .events) ≡ false → anyEligible es H q ps ≡ false) → isSome m || anyEligible es H q ps ≡ false
+    go : (m : Maybe Event) → nonEmpty (takeEligibleAt m p q (suc k) (takeEligible es H ps) .events) ≡ false → (nonEmpty (takeEligible es H ps (suc k) q .events) ≡ false → anyEligible es H q ps ≡ false) → isSome m || anyEligible es H q ps ≡ false
     go none h ih = ih h
     go (some e) h ih = absurd (true≢false h)
 
-none-left : (es : List Edge) (H used b : ℕ) (q : List Event) (ps : List ℕ) → nonEmpty (take es H ps (b - used) q .events) ≡ false → leb b used && anyEligible es H q ps ≡ false → anyEligible es H q ps ≡ false
+none-left : (es : List Edge) (H used b : ℕ) (q : List Event) (ps : List ℕ) → nonEmpty (takeEligible es H ps (b - used) q .events) ≡ false → leb b used && anyEligible es H q ps ≡ false → anyEligible es H q ps ≡ false
 none-left es H used b q ps h k = by-bool (leb b used) (λ e. and-other (leb b used) (anyEligible es H q ps) e k) (λ e. let l : used < b = leb-false b used e in room (b - used - 1) (omega arith))
   where
     room : (r : ℕ) → b - used ≡ suc r → anyEligible es H q ps ≡ false
@@ -63,7 +63,7 @@ unfolding safe lowest
 safe-low [] H p c h = omega arith
 safe-low (e ∷ es) H p c h = let i = safe-low es H p c h in by-test (λ (x : ℕ). min H (min (e .bound) (lowest es c)) ≤ x) (λ t. omega arith) (λ t. omega arith)
 
--- Where p is not eligible, it aims at safe(p).
+-- Where p is not eligible, its input frontier is safe(p).
 late : (e : Event) (k : ℕ) → isSome (below k (some e)) ≡ false → k ≤ e .tick
 unfolding below isSome if_then_else_
 late e k h = go (ltb (e .tick) k) refl h
@@ -72,23 +72,23 @@ late e k h = go (ltb (e .tick) k) refl h
     go true d h = absurd (true≢false h)
     go false d h = ltb-false (e .tick) k d
 
-aim-safe : (s : State) (H p : ℕ) → isSome (eligible (s .edges) H (s .pending) p) ≡ false → safe (s .edges) H p ≤ aim s H p
-unfolding eligible aim firstTick tickOr
-aim-safe s H p h = go (firstOf (s .pending) p) h
+frontier-safe : (s : State) (H p : ℕ) → isSome (eligible (s .edges) H (s .pending) p) ≡ false → safe (s .edges) H p ≤ inputFrontier s H p
+unfolding eligible inputFrontier firstTick tickOr
+frontier-safe s H p h = go (firstOf (s .pending) p) h
   where
     go : (m : Maybe Event) → isSome (below (safe (s .edges) H p) m) ≡ false → safe (s .edges) H p ≤ min (safe (s .edges) H p) (tickOr m H)
     go none h = omega (arith, safe-le (s .edges) H p)
     go (some e) h = omega (arith, late e (safe (s .edges) H p) h)
 
--- At an advance every process aims at the least bound or beyond, and at most at H.
-pub aim-low : (s : State) (h b c : ℕ) → Advances s h b → suc h ≤ c → (p : ℕ) → p < s .n → min (suc h) (lowest (s .edges) c) ≤ aim s (suc h) p
-aim-low s h b c a l p q = omega (arith, aim-safe s (suc h) p (none-eligible s h b a p q), safe-low (s .edges) (suc h) p c l)
+-- At an advance every process's input frontier is at the least bound or beyond, and at most H.
+pub frontier-low : (s : State) (h b c : ℕ) → Advances s h b → suc h ≤ c → (p : ℕ) → p < s .n → min (suc h) (lowest (s .edges) c) ≤ inputFrontier s (suc h) p
+frontier-low s h b c a l p q = omega (arith, frontier-safe s (suc h) p (none-eligible s h b a p q), safe-low (s .edges) (suc h) p c l)
 
-pub aim-le : (s : State) (H p : ℕ) → aim s H p ≤ H
-unfolding aim
-aim-le s H p = omega (arith, safe-le (s .edges) H p)
+pub frontier-le : (s : State) (H p : ℕ) → inputFrontier s H p ≤ H
+unfolding inputFrontier
+frontier-le s H p = omega (arith, safe-le (s .edges) H p)
 
--- What a bound rises to is min(H, aim + L): overflow changes nothing where H is a tick.
+-- What a bound rises to is min(H, input frontier + L): overflow changes nothing where H is a tick.
 choose-low : (T H a : ℕ) → min H a ≤ (if ltb T a then H else min H a)
 choose-low T H a = by-test (λ (x : ℕ). min H a ≤ x) (λ t. omega arith) (λ t. omega arith)
 
@@ -98,17 +98,17 @@ choose-le T H a = by-test (λ (x : ℕ). x ≤ H) (λ t. omega arith) (λ t. ome
 choose-high : (T H a : ℕ) → H ≤ T → (if ltb T a then H else min H a) ≤ min H a
 choose-high T H a h = by-test (λ (x : ℕ). x ≤ min H a) (λ t. omega (arith, ltb-true T a t)) (λ t. omega arith)
 
-pub bound-low : (s : State) (H p : ℕ) → min H (aim s H p + s .lookahead) ≤ boundTo s H p
-unfolding boundTo
-bound-low s H p = choose-low top H (aim s H p + s .lookahead)
+pub bound-low : (s : State) (H p : ℕ) → min H (inputFrontier s H p + s .lookahead) ≤ newBound s H p
+unfolding newBound
+bound-low s H p = choose-low maxTick H (inputFrontier s H p + s .lookahead)
 
-pub bound-le : (s : State) (H p : ℕ) → boundTo s H p ≤ H
-unfolding boundTo
-bound-le s H p = choose-le top H (aim s H p + s .lookahead)
+pub bound-le : (s : State) (H p : ℕ) → newBound s H p ≤ H
+unfolding newBound
+bound-le s H p = choose-le maxTick H (inputFrontier s H p + s .lookahead)
 
-pub bound-high : (s : State) (H p : ℕ) → H ≤ top → boundTo s H p ≤ min H (aim s H p + s .lookahead)
-unfolding boundTo
-bound-high s H p h = choose-high top H (aim s H p + s .lookahead) h
+pub bound-high : (s : State) (H p : ℕ) → H ≤ maxTick → newBound s H p ≤ min H (inputFrontier s H p + s .lookahead)
+unfolding newBound
+bound-high s H p h = choose-high maxTick H (inputFrontier s H p + s .lookahead) h
 
 -- Bounds
 
@@ -124,8 +124,8 @@ one-zero a b = by-test (λ (x : ℕ). x ≡ 0 → b ≤ a) (λ t h. absurd (omeg
 one-none : (a b : ℕ) → b ≤ a → oneIf (ltb a b) ≡ 0
 one-none a b h = by-test (λ (x : ℕ). x ≡ 0) (λ t. absurd (omega (arith, ltb-true a b t))) (λ t. refl)
 
--- Where every process aims at K or beyond, each bound rises to K + L or to H.
-module _ (s : State) (H K : ℕ) (to : (p : ℕ) → p < s .n → K ≤ aim s H p) where
+-- Where every process's input frontier is K or beyond, each bound rises to K + L or to H.
+module _ (s : State) (H K : ℕ) (to : (p : ℕ) → p < s .n → K ≤ inputFrontier s H p) where
   pub low-raised : (es : List Edge) (c : ℕ) → All (Joined (s .n)) es → min c (min H (K + s .lookahead)) ≤ lowest (raisedEdges s H es) c
   unfolding raisedEdges lowest
   low-raised [] c i = omega arith
@@ -136,7 +136,7 @@ module _ (s : State) (H K : ℕ) (to : (p : ℕ) → p < s .n → K ≤ aim s H 
   unfolding raisedEdges lowest countRaised
   low-unraised [] c i h = omega arith
   low-unraised (e ∷ es) c i h =
-      let x = boundTo s H (e .source) in
+      let x = newBound s H (e .source) in
       let z : oneIf (ltb (e .bound) (max (e .bound) x)) ≡ 0 = omega arith in
       omega (arith, low-unraised es c (i .1) (omega arith), to (e .source) (i .0 .source), bound-low s H (e .source), one-zero (e .bound) (max (e .bound) x) z)
 
@@ -148,13 +148,13 @@ low-grows s H (e ∷ es) c = omega (arith, low-grows s H es c)
 pub count-le : (s : State) (H : ℕ) (es : List Edge) → countRaised es (raisedEdges s H es) ≤ length es
 unfolding raisedEdges countRaised
 count-le s H [] = omega arith
-count-le s H (e ∷ es) = omega (arith, count-le s H es, one-le (e .bound) (max (e .bound) (boundTo s H (e .source))))
+count-le s H (e ∷ es) = omega (arith, count-le s H es, one-le (e .bound) (max (e .bound) (newBound s H (e .source))))
 
 -- All bounds are at H: none rises.
 pub count-none : (s : State) (H c : ℕ) (es : List Edge) → H ≤ lowest es c → countRaised es (raisedEdges s H es) ≡ 0
 unfolding raisedEdges countRaised lowest
 count-none s H c [] h = refl
-count-none s H c (e ∷ es) h = omega (arith, count-none s H c es (omega arith), one-none (e .bound) (max (e .bound) (boundTo s H (e .source))) (omega (arith, bound-le s H (e .source))))
+count-none s H c (e ∷ es) h = omega (arith, count-none s H c es (omega arith), one-none (e .bound) (max (e .bound) (newBound s H (e .source))) (omega (arith, bound-le s H (e .source))))
 
 pub length-edges : (s : State) (H : ℕ) (es : List Edge) → length (raisedEdges s H es) ≡ length es
 unfolding raisedEdges
@@ -174,7 +174,7 @@ low-cap (e ∷ es) c = omega (arith, low-cap es c)
 
 -- Local horizons
 
--- What everybody aims at is at least H: all are there.
+-- Everybody's input frontier is at least H: all are there.
 pub all-raised : (to : ℕ → ℕ) (H i : ℕ) (hs : List ℕ) → ((p : ℕ) → p < i + length hs → H ≤ to p) → every (leb H) (raised to i hs) ≡ true
 unfolding raised every
 all-raised to H i [] a = refl

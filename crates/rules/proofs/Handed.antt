@@ -10,7 +10,7 @@ use borrow.Author.Tests.{eqb-false}
 use Rattle.rules.specs.Base.{if_then_else_, some, upFrom}
 use Rattle.rules.specs.State.{Event, Message, Edge, numbered}
 use Rattle.rules.specs.Pending.{insert, firstOf, withoutFirst, queue}
-use Rattle.rules.specs.Step.{Taken, take}
+use Rattle.rules.specs.Step.{BatchTaken, takeEligible}
 use Rattle.rules.specs.History.{Entry, events}
 use Rattle.rules.proofs.Lists.{All, all-map}
 use Rattle.rules.proofs.Order.{Before, Sorted, all-insert, all-without, all-first, sorted-without, first-destination}
@@ -56,12 +56,12 @@ above-without : (g q : List Event) (p : ℕ) → Above g q → Above g (withoutF
 above-without g q p a = all-map (λ d. All (λ x. Le d x) q) (λ d. All (λ x. Le d x) (withoutFirst q p)) (λ d y. all-without (λ x. Le d x) q p y) g a
 
 -- What is taken.
-pub record Good (g : List Event) (t : Taken) : Type 0 where
+pub record Good (g : List Event) (t : BatchTaken) : Type 0 where
   pub order : Ordered (handedOn (t .events) g)
   pub above : Above (handedOn (t .events) g) (t .left)
 
-pub take-good : (es : List Edge) (H : ℕ) (ps : List ℕ) (k : ℕ) (q g : List Event) → Sorted q → Above g q → Ordered g → Good g (take es H ps k q)
-unfolding take
+pub take-good : (es : List Edge) (H : ℕ) (ps : List ℕ) (k : ℕ) (q g : List Event) → Sorted q → Above g q → Ordered g → Good g (takeEligible es H ps k q)
+unfolding takeEligible
 take-good es H [] k q g s a o = record { order = o; above = a }
 take-good es H (p ∷ ps) k q g s a o =
     take-cases es H (λ _ t. Good g t) p ps k q (take-good es H ps k q g s a o) (record { order = o; above = a })
@@ -70,16 +70,16 @@ take-good es H (p ∷ ps) k q g s a o =
     record { order = r .order; above = r .above })
 
 -- Later processes' events are none of an earlier process.
-take-keeps : (es : List Edge) (H i n k : ℕ) (q g : List Event) (b : Event) → b .destination < i → Last g b → Last (handedOn (take es H (upFrom i n) k q .events) g) b
-unfolding take upFrom
+take-keeps : (es : List Edge) (H i n k : ℕ) (q g : List Event) (b : Event) → b .destination < i → Last g b → Last (handedOn (takeEligible es H (upFrom i n) k q .events) g) b
+unfolding takeEligible upFrom
 take-keeps es H i zero k q g b l a = a
 take-keeps es H i (suc n) k q g b l a =
     take-cases es H (λ _ t. Last (handedOn (t .events) g) b) i (upFrom (suc i) n) k q (take-keeps es H (suc i) n k q g b (omega arith) a) a
     (λ j e h f m. take-keeps es H (suc i) n j (withoutFirst q i) (e ∷ g) b (omega arith) ((λ x. absurd (omega (arith, first-destination q i e f))), a))
 
 -- Each event taken is the last of its process.
-pub take-last : (es : List Edge) (H i n k : ℕ) (q g : List Event) → Sorted q → Above g q → All (Last (handedOn (take es H (upFrom i n) k q .events) g)) (take es H (upFrom i n) k q .events)
-unfolding take upFrom
+pub take-last : (es : List Edge) (H i n k : ℕ) (q g : List Event) → Sorted q → Above g q → All (Last (handedOn (takeEligible es H (upFrom i n) k q .events) g)) (takeEligible es H (upFrom i n) k q .events)
+unfolding takeEligible upFrom
 take-last es H i zero k q g s a = tt
 take-last es H i (suc n) k q g s a =
     take-cases es H (λ _ t. All (Last (handedOn (t .events) g)) (t .events)) i (upFrom (suc i) n) k q (take-last es H (suc i) n k q g s a) tt

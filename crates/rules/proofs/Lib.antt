@@ -7,7 +7,7 @@ pub mod RefusalsCalls
 pub mod RefusalsBack
 pub mod RefusalsPlan
 pub mod Refusals
-pub mod Beside
+pub mod MoreRehearsals
 pub mod Counting
 -- Tools: tests, lists, tables of refusals, and what each call can do.
 pub mod Tests
@@ -19,9 +19,9 @@ pub mod Shape
 pub mod Counts
 pub mod Tally
 pub mod TallyCalls
--- .. rounds and null messages, and that a step never gets stuck, ..
+-- .. rounds and null messages, and that no step comes to the last branch, ..
 pub mod Fronts
-pub mod Unstuck
+pub mod LastBranch
 pub mod Pace
 pub mod PaceMoves
 pub mod PaceCalls

@@ -15,7 +15,7 @@ use Rattle.rules.specs.Foreign.{foreign}
 use Rattle.rules.specs.Initial.{addInitial}
 use Rattle.rules.specs.Begin.{begin}
 use Rattle.rules.specs.Step.{step}
-use Rattle.rules.specs.HandBack.{Emission, messageRows, emissionRows, processRows, poisonRows, backRows, commit, commitAt, lose, handBack}
+use Rattle.rules.specs.HandBack.{Emission, messageRows, emissionRows, processRows, poisonRows, handBackRows, commit, commitAt, poisonWith, handBack}
 use Rattle.rules.specs.Calls.{Call, AddInitial, Begin, Step, HandBack, rule}
 use Rattle.rules.proofs.Tests.{by-test, not-both}
 use Rattle.rules.proofs.Lists.{All}
@@ -52,33 +52,33 @@ module _ (s : State) (c : Counters) (w : Shaped s) where
 
   proper-initial : (m : Message) → Proper (addInitial s c m)
   unfolding number
-  proper-initial m = by-initial s c m Proper (record { alien = never; away = plain s c; accept = λ _. both _ refl refl })
+  proper-initial m = by-initial s c m Proper (record { foreign = never; refused = plain s c; accept = λ _. both _ refl refl })
 
   proper-begin : (h b : ℕ) → Proper (begin s c h b)
   unfolding number
-  proper-begin h b = by-begin s c h b Proper (record { alien = never; away = plain s c; accept = λ _. both _ refl refl })
+  proper-begin h b = by-begin s c h b Proper (record { foreign = never; refused = plain s c; accept = λ _. both _ refl refl })
 
   proper-step : Proper (step s c)
   unfolding number refusalNumber
   proper-step = by-step s c Proper (record {
-    alien = never;
-    away = plain s c;
+    foreign = never;
+    refused = plain s c;
     batch = λ _ _ _ _. both _ refl refl;
     spends = λ _ _ _. both _ refl refl;
     rise = λ _ _ _ _. both _ refl refl;
     finish = λ _ _ _ _ _. both _ refl refl;
-    stuck = λ _ _ _ _ _. both _ refl refl;
+    last-branch = λ _ _ _ _ _. both _ refl refl;
   })
 
   back-no-foreign : (mask : ℕ) (xs : List Emission) → Not 11 (handBack s c mask xs)
   unfolding number refusalNumber
   back-no-foreign mask xs = by-back s c mask xs (Not 11) (record {
-    alien = never;
-    dead = λ _. another 11 _ refl;
+    foreign = never;
+    poisoned = λ _. another 11 _ refl;
     empty = λ _. another 11 _ refl;
     malformed = another 11 _ refl;
-    lost = λ _ r l. another 11 (lose s c r) (l .not-11);
-    homeless = λ _ _. another 11 _ refl;
+    lost = λ _ r l. another 11 (poisonWith s c r) (l .not-11);
+    no-horizon = λ _ _. another 11 _ refl;
     spends = λ _ _ _. another 11 _ refl;
     commits = λ _ _ _. another 11 _ refl;
   })
@@ -127,10 +127,10 @@ module _ (s : State) (g : List Event) (ahead : 0 < s .lookahead) (i : FairAt g s
   unfolding Mild refusalNumber
   mild-rows mask xs = firsts-append Mild (processRows s mask xs (s .batch)) _ (mild-processes mask xs (s .batch) (i .held)) (λ _. ((λ _. refl), λ _. ((λ _. refl), λ _. tt)))
 
-  mild-lost : (c : Counters) (rs : List Row) → Firsts Mild rs → Firsts (λ r. Not 33 (lose s c r)) rs
+  mild-lost : (c : Counters) (rs : List Row) → Firsts Mild rs → Firsts (λ r. Not 33 (poisonWith s c r)) rs
   unfolding Mild number
   mild-lost c [] f = tt
-  mild-lost c (r ∷ rs) f = ((λ t. another 33 (lose s c (r .refusal)) (f .0 t)), λ e. mild-lost c rs (f .1 e))
+  mild-lost c (r ∷ rs) f = ((λ t. another 33 (poisonWith s c (r .refusal)) (f .0 t)), λ e. mild-lost c rs (f .1 e))
 
   commit-mild : (c : Counters) (xs : List Emission) (l : Stored) → Not 33 (commitAt s c l xs)
   unfolding commitAt commit number refusalNumber
@@ -140,7 +140,7 @@ module _ (s : State) (g : List Event) (ahead : 0 < s .lookahead) (i : FairAt g s
   pub back-no-straggler : (c : Counters) (mask : ℕ) (xs : List Emission) → Not 33 (handBack s c mask xs)
   unfolding handBack number refusalNumber
   back-no-straggler c mask xs =
-      by-firsts (Not 33) (backRows s mask xs) _ _
+      by-firsts (Not 33) (handBackRows s mask xs) _ _
       ((λ _. another 33 _ refl), λ _. ((λ _. another 33 _ refl), λ _. ((λ _. another 33 _ refl), λ _. ((λ _. another 33 _ refl), λ _. tt))))
       (λ _. by-firsts (Not 33) (poisonRows s mask xs) _ _ (mild-lost c (poisonRows s mask xs) (mild-rows mask xs)) (λ _. commit-mild c xs (s .stored)))
 

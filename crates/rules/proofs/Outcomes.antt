@@ -8,10 +8,10 @@ use Rattle.rules.specs.State.{Event, Stored, stored, State, Counters, wi
 use Rattle.rules.specs.Answers as A
 use Rattle.rules.specs.Rows.{unless, out, refuse}
 use Rattle.rules.specs.Foreign.{foreign}
-use Rattle.rules.specs.Step.{takenAt, spent, rose, nullsOf, advanced, countAdvance, complete, advance, stepRun, stepAt, step}
+use Rattle.rules.specs.Step.{takenAt, spent, anyAdvanced, nullMessagesOf, advanced, countAdvance, complete, advance, stepRun, stepAt, step}
 use Rattle.rules.proofs.Cases.{Steps, Advances}
 use Rattle.rules.proofs.Shape.{shaped}
-use Rattle.rules.proofs.Unstuck.{never-stuck}
+use Rattle.rules.proofs.LastBranch.{never-last-branch}
 
 module _ (s : State) (c : Counters) where
   pub step-poisoned : foreign s ≡ false → s .poisoned ≡ true → step s c ≡ refuse s c A.Poisoned
@@ -43,14 +43,14 @@ module _ (s : State) (c : Counters) where
     unfolding stepRun if_then_else_
     run-spent t u = rw (t, u)
 
-    pub run-rise : nonEmpty (takenAt s h b .events) ≡ false → spent s h b ≡ false → rose s (suc h) ≡ true → stepRun s c h b ≡ out (A.Advanced (advanced s h .gvt)) (advanced s h) (countAdvance c (nullsOf s (suc h)))
+    pub run-rise : nonEmpty (takenAt s h b .events) ≡ false → spent s h b ≡ false → anyAdvanced s (suc h) ≡ true → stepRun s c h b ≡ out (A.Advanced (advanced s h .gvt)) (advanced s h) (countAdvance c (nullMessagesOf s (suc h)))
     unfolding stepRun advance if_then_else_
     run-rise t u r = rw (t, u, r)
 
-    run-complete : nonEmpty (takenAt s h b .events) ≡ false → spent s h b ≡ false → rose s (suc h) ≡ false → complete (advanced s h) (suc h) ≡ true → stepRun s c h b ≡ out (A.Finished (advanced s h .gvt)) (closed (advanced s h)) c
+    run-complete : nonEmpty (takenAt s h b .events) ≡ false → spent s h b ≡ false → anyAdvanced s (suc h) ≡ false → complete (advanced s h) (suc h) ≡ true → stepRun s c h b ≡ out (A.Finished (advanced s h .gvt)) (closed (advanced s h)) c
     unfolding stepRun advance if_then_else_
     run-complete t u r k = rw (t, u, r, k)
 
     -- Where nothing rose, the run is complete: a program need not look.
-    pub run-finish : Advances s h b → rose s (suc h) ≡ false → stepRun s c h b ≡ out (A.Finished (advanced s h .gvt)) (closed (advanced s h)) c
-    run-finish i r = run-complete (i .none-taken) (i .not-spent) r (never-stuck s h b (shaped s (i .steps .passes)) i r)
+    pub run-finish : Advances s h b → anyAdvanced s (suc h) ≡ false → stepRun s c h b ≡ out (A.Finished (advanced s h .gvt)) (closed (advanced s h)) c
+    run-finish i r = run-complete (i .none-taken) (i .not-spent) r (never-last-branch s h b (shaped s (i .steps .passes)) i r)

@@ -10,7 +10,7 @@ use lib.ListN.{length}
 use borrow.Author.Tests.{leb-true, leb-false, le-leb}
 use Rattle.rules.specs.Base.{if_then_else_, count, every}
 use Rattle.rules.specs.State.{Edge, Stored, unset, stored, State, Counters}
-use Rattle.rules.specs.History.{Entry, History, isAdvanced, commits, R, H, handled, rounds, nulls}
+use Rattle.rules.specs.History.{Entry, History, isAdvanced, commits, R, H, handled, rounds, nullMessages}
 use Rattle.rules.proofs.Tests.{not-both}
 use Rattle.rules.proofs.Lists.{All}
 use Rattle.rules.proofs.Shape.{Shaped}
@@ -32,12 +32,12 @@ pub record Counts : Type 0 where
   pub handled : ℕ
   pub commits : ℕ
   pub advances : ℕ
-  pub nulls : ℕ
+  pub «null_messages» : ℕ
   pub sends : ℕ
   pub lifts : ℕ
 
 unfoldable pub countsOf : List Entry → Counts
-countsOf es = record { runs = R es; end = H es; handled = handled es; commits = count commits es; advances = count (λ e. isAdvanced (e .answer)) es; nulls = nulls es; sends = sends es; lifts = lifts es }
+countsOf es = record { runs = R es; end = H es; handled = handled es; commits = count commits es; advances = count (λ e. isAdvanced (e .answer)) es; «null_messages» = nullMessages es; sends = sends es; lifts = lifts es }
 
 -- One above the stored horizon, 0 if none.
 unfoldable pub endOf : Stored → ℕ
@@ -55,7 +55,7 @@ pub record Pace (k : Counts) (L : ℕ) (es : List Edge) (hs : List ℕ) (l : Sto
   pub sending : front (k .end) L es < k .end → (k .sends + 2) * L ≤ front (k .end) L es + k .runs * L
   pub lifted : k .lifts ≤ k .runs
   pub lifting : every (leb (k .end)) hs ≡ false → k .lifts + 1 ≤ k .runs
-  pub nulls : k .nulls ≤ length es * k .sends
+  pub «null_messages» : k .«null_messages» ≤ length es * k .sends
   pub advances : k .advances ≡ k .sends + k .lifts
   pub commits : k .commits ≤ k .handled
 
@@ -84,16 +84,16 @@ module _ (k : Counts) (L : ℕ) (es : List Edge) (hs : List ℕ) (l : Stored) (p
   pace-sends : k .sends ≤ k .end / L + k .runs
   pace-sends = sends-few (k .sends) L (front (k .end) L es) (k .end) (k .runs) p (i .sent) (low-cap es (max (k .end) L))
 
-  pace-nulls : k .nulls ≤ length es * (k .end / L + k .runs)
-  pace-nulls = omega (arith, i .nulls, mul-le-mul-left (length es) pace-sends)
+  pace-null-messages : k .«null_messages» ≤ length es * (k .end / L + k .runs)
+  pace-null-messages = omega (arith, i .«null_messages», mul-le-mul-left (length es) pace-sends)
 
   pace-rounds : k .commits + k .advances ≤ k .handled + k .end / L + 2 * k .runs
   pace-rounds = omega (arith, pace-sends, i .advances, i .lifted, i .commits)
 
 -- Null messages are at most E x (floor(H / L) + R).
-pub few-nulls : (y : History) → Shaped (y .now) → Paced y → nulls (y .entries) ≤ length (y .now .edges) * (H (y .entries) / y .now .lookahead + R (y .entries))
+pub few-null-messages : (y : History) → Shaped (y .now) → Paced y → nullMessages (y .entries) ≤ length (y .now .edges) * (H (y .entries) / y .now .lookahead + R (y .entries))
 unfolding Paced countsOf
-few-nulls y s i = pace-nulls (countsOf (y .entries)) (y .now .lookahead) (y .now .edges) (y .now .horizons) (y .now .stored) (s .sized .ahead) i
+few-null-messages y s i = pace-null-messages (countsOf (y .entries)) (y .now .lookahead) (y .now .edges) (y .now .horizons) (y .now .stored) (s .sized .ahead) i
 
 -- Rounds are at most handled + floor(H / L) + 2 x R.
 pub few-rounds : (y : History) → Shaped (y .now) → Paced y → rounds (y .entries) ≤ handled (y .entries) + H (y .entries) / y .now .lookahead + 2 * R (y .entries)
@@ -112,14 +112,14 @@ low-start L [] c h i = h
 low-start L (e ∷ es) c h i = omega (arith, low-start L es c h (i .1), i .0)
 
 pace-none : (L : ℕ) (es : List Edge) (hs : List ℕ) (l : Stored) → l ≡ unset → All (λ (e : Edge). e .bound ≡ L) es → Pace (countsOf []) L es hs l
-unfolding countsOf R H handled count nulls sends lifts endOf
+unfolding countsOf R H handled count nullMessages sends lifts endOf
 pace-none L es hs l u b = record {
   end = sym (ap endOf u);
   sent = omega (arith, low-start L es (max 0 L) (omega arith) b);
   sending = λ h. absurd (omega arith);
   lifted = omega arith;
   lifting = λ h. not-both (all-zero hs) h;
-  nulls = omega arith;
+  «null_messages» = omega arith;
   advances = refl;
   commits = omega arith;
 }

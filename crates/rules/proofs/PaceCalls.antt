@@ -14,16 +14,16 @@ use Rattle.rules.specs.Answers.{Refusal, refusalNumber, Answer, Accepted
 use Rattle.rules.specs.Rows.{Out, out}
 use Rattle.rules.specs.Begin.{previous}
 use Rattle.rules.specs.Refresh.{raised, refreshTo, refreshed}
-use Rattle.rules.specs.Step.{aim, countRaised, anyRaised, newEdges, newHorizons, nullsOf, rose, advanced}
+use Rattle.rules.specs.Step.{inputFrontier, countRaised, anyRaised, newEdges, newHorizons, nullMessagesOf, anyAdvanced, advanced}
 use Rattle.rules.specs.HandBack.{Emission, handled}
 use Rattle.rules.specs.Calls.{Call, AddInitial, Begin, Step, HandBack, rule}
-use Rattle.rules.specs.History.{Entry, History, entry, onward, isBegin, isHandBack, horizon, refused, isCommitted, isAdvanced, inHand}
+use Rattle.rules.specs.History.{Entry, History, entry, appendCall, isBegin, isHandBack, horizon, refused, isCommitted, isAdvanced, inHand}
 use Rattle.rules.proofs.Tests.{by-bool, not-both, or-else}
 use Rattle.rules.proofs.Lists.{some-long}
 use Rattle.rules.proofs.Cases.{by-initial, BeginPassed, by-begin, Advances, by-step, by-back}
 use Rattle.rules.proofs.Shape.{Shaped, passes-11}
-use Rattle.rules.proofs.Fronts.{aim-low, aim-le, low-raised, low-grows, count-le, count-none, length-edges, all-stay, none-raised}
-use Rattle.rules.proofs.Unstuck.{horizons-high}
+use Rattle.rules.proofs.Fronts.{frontier-low, frontier-le, low-raised, low-grows, count-le, count-none, length-edges, all-stay, none-raised}
+use Rattle.rules.proofs.LastBranch.{horizons-high}
 use Rattle.rules.proofs.Pace.{Counts, countsOf, endOf, front, Pace, Paced}
 use Rattle.rules.proofs.PaceMoves.{begun, moved, Kind, counts-quiet, counts-begun, counts-moved, counts-returned, pace-stay, pace-begun, pace-sent, pace-lift, pace-returned}
 
@@ -37,14 +37,14 @@ module _ (s : State) (h b : ℕ) (w : Shaped s) (a : Advances s h b) (k : Counts
   shifted : (to : ℕ → ℕ) → Pace k (s .lookahead) (newEdges s (suc h)) (raised to 0 (newHorizons s (suc h))) (s .stored)
   shifted to =
       pace-stay k (s .lookahead) (s .edges) (newEdges s (suc h)) (s .horizons) (raised to 0 (newHorizons s (suc h))) (s .stored) i (length-edges s (suc h) (s .edges)) (low-grows s (suc h) (s .edges) (max (k .end) (s .lookahead)))
-      (λ u. all-stay to (k .end) 0 (newHorizons s (suc h)) (all-stay (aim s (suc h)) (k .end) 0 (s .horizons) u))
+      (λ u. all-stay to (k .end) 0 (newHorizons s (suc h)) (all-stay (inputFrontier s (suc h)) (k .end) 0 (s .horizons) u))
 
-  -- Everybody aims at the front or beyond.
-  low : (p : ℕ) → p < s .n → min (suc h) (front (k .end) (s .lookahead) (s .edges)) ≤ aim s (suc h) p
-  low = aim-low s h b (max (k .end) (s .lookahead)) a (omega (arith, end-is))
+  -- Everybody's input frontier is at the front or beyond.
+  low : (p : ℕ) → p < s .n → min (suc h) (front (k .end) (s .lookahead) (s .edges)) ≤ inputFrontier s (suc h) p
+  low = frontier-low s h b (max (k .end) (s .lookahead)) a (omega (arith, end-is))
 
   -- A bound rose: the front was below the end, and rose.
-  front-low : 0 < nullsOf s (suc h) → front (k .end) (s .lookahead) (s .edges) < k .end
+  front-low : 0 < nullMessagesOf s (suc h) → front (k .end) (s .lookahead) (s .edges) < k .end
   front-low r =
       by-bool (leb (k .end) (front (k .end) (s .lookahead) (s .edges)))
       (λ d. let l : k .end ≤ front (k .end) (s .lookahead) (s .edges) = leb-true _ _ d in absurd (omega (arith, count-none s (suc h) (max (k .end) (s .lookahead)) (s .edges) (omega (arith, end-is)))))
@@ -54,25 +54,25 @@ module _ (s : State) (h b : ℕ) (w : Shaped s) (a : Advances s h b) (k : Counts
   front-far = omega (arith, end-is, low-raised s (suc h) (min (suc h) (front (k .end) (s .lookahead) (s .edges))) low (s .edges) (max (k .end) (s .lookahead)) (w .wired .joined))
 
   -- No bound rose but something did: not every local horizon was at the end, and now each is.
-  horizons-low : nullsOf s (suc h) ≡ 0 → rose s (suc h) ≡ true → every (leb (k .end)) (s .horizons) ≡ false
-  unfolding rose
+  horizons-low : nullMessagesOf s (suc h) ≡ 0 → anyAdvanced s (suc h) ≡ true → every (leb (k .end)) (s .horizons) ≡ false
+  unfolding anyAdvanced
   horizons-low z t =
       by-bool (every (leb (k .end)) (s .horizons))
-      (λ d. not-both (or-else (ltb 0 (nullsOf s (suc h))) (anyRaised (s .horizons) (newHorizons s (suc h))) (le-ltb 0 (nullsOf s (suc h)) (omega arith)) t) (none-raised (aim s (suc h)) (k .end) 0 (s .horizons) (λ p. omega (arith, aim-le s (suc h) p, end-is)) d))
+      (λ d. not-both (or-else (ltb 0 (nullMessagesOf s (suc h))) (anyRaised (s .horizons) (newHorizons s (suc h))) (le-ltb 0 (nullMessagesOf s (suc h)) (omega arith)) t) (none-raised (inputFrontier s (suc h)) (k .end) 0 (s .horizons) (λ p. omega (arith, frontier-le s (suc h) p, end-is)) d))
       (λ d. d)
 
-  pub pace-rose : (to : ℕ → ℕ) → rose s (suc h) ≡ true → Pace (moved k (nullsOf s (suc h))) (s .lookahead) (newEdges s (suc h)) (raised to 0 (newHorizons s (suc h))) (s .stored)
+  pub pace-rose : (to : ℕ → ℕ) → anyAdvanced s (suc h) ≡ true → Pace (moved k (nullMessagesOf s (suc h))) (s .lookahead) (newEdges s (suc h)) (raised to 0 (newHorizons s (suc h))) (s .stored)
   pace-rose to t =
-      by-bool (ltb 0 (nullsOf s (suc h)))
-      (λ e. let r : 0 < nullsOf s (suc h) = ltb-true _ _ e in
-      pace-sent k (s .lookahead) (nullsOf s (suc h)) (s .edges) (newEdges s (suc h)) (raised to 0 (newHorizons s (suc h))) (s .stored)
+      by-bool (ltb 0 (nullMessagesOf s (suc h)))
+      (λ e. let r : 0 < nullMessagesOf s (suc h) = ltb-true _ _ e in
+      pace-sent k (s .lookahead) (nullMessagesOf s (suc h)) (s .edges) (newEdges s (suc h)) (raised to 0 (newHorizons s (suc h))) (s .stored)
       (i .sending (front-low r)) r (count-le s (suc h) (s .edges)) (length-edges s (suc h) (s .edges)) (low-grows s (suc h) (s .edges) (max (k .end) (s .lookahead))) front-far (shifted to))
-      (λ e. let z : nullsOf s (suc h) ≡ 0 = omega (arith, ltb-false 0 (nullsOf s (suc h)) e) in
+      (λ e. let z : nullMessagesOf s (suc h) ≡ 0 = omega (arith, ltb-false 0 (nullMessagesOf s (suc h)) e) in
       rw z (pace-lift k (s .lookahead) (newEdges s (suc h)) (raised to 0 (newHorizons s (suc h))) (s .stored) (i .lifting (horizons-low z t)) (rw end-is (horizons-high s h b w a to z)) (shifted to)))
 
 -- What a call that came out as o is to show.
 unfoldable pub Going : History → Call → Out → Type 0
-Going y k o = Paced (onward y k o)
+Going y k o = Paced (appendCall y k o)
 
 -- The pace of a state with the counts of a list of calls.
 unfoldable At : List Entry → State → Type 0
@@ -107,8 +107,8 @@ module _ (y : History) (m : Message) (w : Shaped (y .now)) (i : Paced y) where
   going-initial : Going y (AddInitial m) (rule (y .now) (y .counters) (AddInitial m))
   unfolding rule Paced At isAdvanced
   going-initial = by-initial (y .now) (y .counters) m (Going y (AddInitial m)) (record {
-    alien = λ e. not-both e (passes-11 (y .now) w);
-    away = λ r _. initial-quiet (Refused r) (y .now) refl i;
+    foreign = λ e. not-both e (passes-11 (y .now) w);
+    refused = λ r _. initial-quiet (Refused r) (y .now) refl i;
     accept = λ _. initial-quiet Accepted _ refl i;
   })
 
@@ -132,8 +132,8 @@ module _ (y : History) (h b : ℕ) (w : Shaped (y .now)) (i : Paced y) where
   going-begin : Going y (Begin h b) (rule (y .now) (y .counters) (Begin h b))
   unfolding rule
   going-begin = by-begin (y .now) (y .counters) h b (Going y (Begin h b)) (record {
-    alien = λ e. not-both e (passes-11 (y .now) w);
-    away = λ r _. begin-refused r;
+    foreign = λ e. not-both e (passes-11 (y .now) w);
+    refused = λ r _. begin-refused r;
     accept = begin-accepted;
   })
 
@@ -143,7 +143,7 @@ module _ (y : History) (w : Shaped (y .now)) (i : Paced y) where
   unfolding isBegin isHandBack
   step-quiet r s e j = going-quiet y Step r s (y .counters) (record { begins = refl; advanced = e; commits = refl }) j
 
-  step-rise : (h b : ℕ) → Advances (y .now) h b → rose (y .now) (suc h) ≡ true → (c : Counters) → Going y Step (out (Advanced (advanced (y .now) h .gvt)) (advanced (y .now) h) c)
+  step-rise : (h b : ℕ) → Advances (y .now) h b → anyAdvanced (y .now) (suc h) ≡ true → (c : Counters) → Going y Step (out (Advanced (advanced (y .now) h .gvt)) (advanced (y .now) h) c)
   unfolding Paced isBegin isHandBack isAdvanced refreshed
   step-rise h b a t c =
       going-moved y Step (Advanced (advanced (y .now) h .gvt)) (advanced (y .now) h) c (record { begins = refl; advanced = refl; commits = refl })
@@ -156,13 +156,13 @@ module _ (y : History) (w : Shaped (y .now)) (i : Paced y) where
   going-step : Going y Step (rule (y .now) (y .counters) Step)
   unfolding rule Paced At isAdvanced
   going-step = by-step (y .now) (y .counters) (Going y Step) (record {
-    alien = λ e. not-both e (passes-11 (y .now) w);
-    away = λ r _. step-quiet (Refused r) (y .now) refl i;
+    foreign = λ e. not-both e (passes-11 (y .now) w);
+    refused = λ r _. step-quiet (Refused r) (y .now) refl i;
     batch = λ h b _ _. step-quiet _ _ refl i;
     spends = λ h b _. step-quiet _ _ refl i;
     rise = λ h b a t. step-rise h b a t _;
     finish = λ h b a _ _. step-quiet _ _ refl (step-still h b a);
-    stuck = λ h b a _ _. step-quiet _ _ refl (step-still h b a);
+    last-branch = λ h b a _ _. step-quiet _ _ refl (step-still h b a);
   })
 
 -- Hand back
@@ -189,12 +189,12 @@ module _ (y : History) (mask : ℕ) (xs : List Emission) (w : Shaped (y .now)) (
   going-back : Going y (HandBack mask xs) (rule (y .now) (y .counters) (HandBack mask xs))
   unfolding rule Paced At refusalNumber
   going-back = by-back (y .now) (y .counters) mask xs (Going y (HandBack mask xs)) (record {
-    alien = λ e. not-both e (passes-11 (y .now) w);
-    dead = λ _. back-quiet _ _ refl i;
+    foreign = λ e. not-both e (passes-11 (y .now) w);
+    poisoned = λ _. back-quiet _ _ refl i;
     empty = λ _. back-quiet _ _ refl i;
     malformed = back-quiet _ _ refl i;
     lost = λ _ r l. back-quiet r _ (l .not-24) i;
-    homeless = λ _ _. back-quiet _ _ refl i;
+    no-horizon = λ _ _. back-quiet _ _ refl i;
     spends = λ h b m. back-spends b _ _ (m .reply .some-batch) i;
     commits = λ h b m. back-commits _ _ _ (m .reply .some-batch) (back-refreshed h);
   })
@@ -205,6 +205,6 @@ going y (Begin h b) w q i = going-begin y h b w i
 going y Step w q i = going-step y w i
 going y (HandBack mask xs) w q i = going-back y mask xs w q i
 
-pub pace-kept : (y : History) (k : Call) → Shaped (y .now) → inHand (y .entries) ≡ y .now .batch → Paced y → Paced (onward y k (rule (y .now) (y .counters) k))
+pub pace-kept : (y : History) (k : Call) → Shaped (y .now) → inHand (y .entries) ≡ y .now .batch → Paced y → Paced (appendCall y k (rule (y .now) (y .counters) k))
 unfolding Going
 pace-kept y k w q i = going y k w q i

@@ -9,7 +9,7 @@ use lib.Dec.{leb}
 use lib.ListN.{length}
 use Rattle.rules.specs.Base.{if_then_else_, count, every}
 use Rattle.rules.specs.State.{Edge, Stored, stored}
-use Rattle.rules.specs.History.{Entry, horizon, isAdvanced, begins, commits, R, H, inHand, handled, nulls}
+use Rattle.rules.specs.History.{Entry, horizon, isAdvanced, begins, commits, R, H, inHand, handled, nullMessages}
 use Rattle.rules.proofs.Tests.{not-both}
 use Rattle.rules.proofs.Fronts.{low-more}
 use Rattle.rules.proofs.Pace.{Counts, countsOf, sends, lifts, endOf, front, Pace}
@@ -22,33 +22,33 @@ grown b a c h r n k = record {
   handled = (if c then n else 0) + k .handled;
   commits = (if c then 1 else 0) + k .commits;
   advances = (if a then 1 else 0) + k .advances;
-  nulls = (if a then r else 0) + k .nulls;
+  «null_messages» = (if a then r else 0) + k .«null_messages»;
   sends = (if a then min r 1 else 0) + k .sends;
   lifts = (if a then 1 - r else 0) + k .lifts;
 }
 
 counts-more : (e : Entry) (es : List Entry) → countsOf (e ∷ es) ≡ grown (begins e) (isAdvanced (e .answer)) (commits e) (horizon (e .call)) (e .raises) (length (inHand es)) (countsOf es)
-unfolding grown countsOf R H handled nulls sends lifts count
+unfolding grown countsOf R H handled nullMessages sends lifts count
 counts-more e es = refl
 
 -- The counts after an accepted begin, after an Advanced answer for which r bounds rose, and after a hand back that commits n events.
 abbrev pub begun : Counts → ℕ → Counts
-begun k h = record { runs = 1 + k .runs; end = suc h; handled = k .handled; commits = k .commits; advances = k .advances; nulls = k .nulls; sends = k .sends; lifts = k .lifts }
+begun k h = record { runs = 1 + k .runs; end = suc h; handled = k .handled; commits = k .commits; advances = k .advances; «null_messages» = k .«null_messages»; sends = k .sends; lifts = k .lifts }
 
 abbrev pub moved : Counts → ℕ → Counts
-moved k r = record { runs = k .runs; end = k .end; handled = k .handled; commits = k .commits; advances = 1 + k .advances; nulls = r + k .nulls; sends = min r 1 + k .sends; lifts = (1 - r) + k .lifts }
+moved k r = record { runs = k .runs; end = k .end; handled = k .handled; commits = k .commits; advances = 1 + k .advances; «null_messages» = r + k .«null_messages»; sends = min r 1 + k .sends; lifts = (1 - r) + k .lifts }
 
 abbrev pub returned : Counts → ℕ → Counts
-returned k n = record { runs = k .runs; end = k .end; handled = n + k .handled; commits = 1 + k .commits; advances = k .advances; nulls = k .nulls; sends = k .sends; lifts = k .lifts }
+returned k n = record { runs = k .runs; end = k .end; handled = n + k .handled; commits = 1 + k .commits; advances = k .advances; «null_messages» = k .«null_messages»; sends = k .sends; lifts = k .lifts }
 
 module _ (h r n : ℕ) (k : Counts) where
   grown-quiet : grown false false false h r n k ≡ k
   unfolding grown if_then_else_
-  grown-quiet = rw (zero-add (k .runs), zero-add (k .handled), zero-add (k .commits), zero-add (k .advances), zero-add (k .nulls), zero-add (k .sends), zero-add (k .lifts)) refl
+  grown-quiet = rw (zero-add (k .runs), zero-add (k .handled), zero-add (k .commits), zero-add (k .advances), zero-add (k .«null_messages»), zero-add (k .sends), zero-add (k .lifts)) refl
 
   grown-begun : grown true false false h r n k ≡ begun k h
   unfolding grown if_then_else_
-  grown-begun = rw (zero-add (k .handled), zero-add (k .commits), zero-add (k .advances), zero-add (k .nulls), zero-add (k .sends), zero-add (k .lifts)) refl
+  grown-begun = rw (zero-add (k .handled), zero-add (k .commits), zero-add (k .advances), zero-add (k .«null_messages»), zero-add (k .sends), zero-add (k .lifts)) refl
 
   grown-moved : grown false true false h r n k ≡ moved k r
   unfolding grown if_then_else_
@@ -56,7 +56,7 @@ module _ (h r n : ℕ) (k : Counts) where
 
   grown-returned : grown false false true h r n k ≡ returned k n
   unfolding grown if_then_else_
-  grown-returned = rw (zero-add (k .runs), zero-add (k .advances), zero-add (k .nulls), zero-add (k .sends), zero-add (k .lifts)) refl
+  grown-returned = rw (zero-add (k .runs), zero-add (k .advances), zero-add (k .«null_messages»), zero-add (k .sends), zero-add (k .lifts)) refl
 
 -- What a call is, by the three tests.
 pub record Kind (e : Entry) (b a c : Bool) : Type 0 where
@@ -87,7 +87,7 @@ pace-stay k L es fs hs gs l i ns up st = record {
   sending = λ h. omega (arith, i .sending (omega arith));
   lifted = i .lifted;
   lifting = λ h. i .lifting (stays (every (leb (k .end)) hs) (every (leb (k .end)) gs) st h);
-  nulls = rw ns (i .nulls);
+  «null_messages» = rw ns (i .«null_messages»);
   advances = i .advances;
   commits = i .commits;
 }
@@ -107,7 +107,7 @@ pace-begun k L h b es hs l i up =
       sending = λ _. omega (arith, i .sent);
       lifted = omega (arith, i .lifted);
       lifting = λ _. omega (arith, i .lifted);
-      nulls = i .nulls;
+      «null_messages» = i .«null_messages»;
       advances = i .advances;
       commits = i .commits;
     }
@@ -123,7 +123,7 @@ pace-sent k L r es fs gs l s rp rl ns grow far j =
       sending = λ h. rw o (omega (arith, s, j .sending h));
       lifted = omega (arith, j .lifted);
       lifting = λ h. omega (arith, j .lifting h);
-      nulls = rw o (omega (arith, j .nulls));
+      «null_messages» = rw o (omega (arith, j .«null_messages»));
       advances = omega (arith, j .advances);
       commits = j .commits;
     }
@@ -136,7 +136,7 @@ pace-lift k L fs gs l lifting now j = record {
   sending = λ h. omega (arith, j .sending h);
   lifted = omega arith;
   lifting = λ h. not-both now h;
-  nulls = omega (arith, j .nulls);
+  «null_messages» = omega (arith, j .«null_messages»);
   advances = omega (arith, j .advances);
   commits = j .commits;
 }
@@ -149,7 +149,7 @@ pace-returned k L n es hs l p i = record {
   sending = i .sending;
   lifted = i .lifted;
   lifting = i .lifting;
-  nulls = i .nulls;
+  «null_messages» = i .«null_messages»;
   advances = i .advances;
   commits = omega (arith, i .commits);
 }

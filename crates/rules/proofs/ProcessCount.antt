@@ -1,16 +1,15 @@
--- For the code: row 1, as a program tests it.
+-- For the code: what row 1 lets pass.
 use mathlib.Core.Path.{_≡_}
-use mathlib.Core.Bool.{true, false, _||_}
+use mathlib.Core.Bool.{false, _||_}
 use Prim.Native.Nat.{ℕ, _≤_, _<_}
+use native.Mathlib.Omega.{arith}
 use lib.Dec.{ltb, eqb}
-use borrow.Author.Tests.{lt-ltb, le-ltb, eq-eqb, ne-eqb}
-use Rattle.rules.proofs.Tests.{or-both}
+use borrow.Author.Tests.{ltb-false, eqb-false}
+use Rattle.rules.proofs.Tests.{or-left, or-right}
 
-pub count-none : (n : ℕ) → n ≡ 0 → eqb n 0 || ltb 64 n ≡ true
-count-none n e = rw (eq-eqb n 0 e)
+module _ (n : ℕ) (a : eqb n 0 || ltb 64 n ≡ false) where
+  pub some-process : 0 < n
+  some-process = let f = eqb-false n 0 (or-left (eqb n 0) (ltb 64 n) a) in omega arith
 
-pub count-many : (n : ℕ) → (n ≡ 0 → ⊥) → 64 < n → eqb n 0 || ltb 64 n ≡ true
-count-many n a h = rw (ne-eqb n 0 a) (lt-ltb 64 n h)
-
-pub counted : (n : ℕ) → (n ≡ 0 → ⊥) → n ≤ 64 → eqb n 0 || ltb 64 n ≡ false
-counted n a b = or-both (eqb n 0) (ltb 64 n) (ne-eqb n 0 a) (le-ltb 64 n b)
+  pub at-most-64 : n ≤ 64
+  at-most-64 = ltb-false 64 n (or-right (eqb n 0) (ltb 64 n) a)

@@ -1,7 +1,7 @@
 -- Each holds by computation.
 use mathlib.Core.Path.{refl}
 use Rattle.rules.specs.Opened.{all-rules}
-use Rattle.rules.specs.Told.{times}
+use Rattle.rules.specs.Outcomes.{times}
 use Rattle.rules.specs.Samples.{manyEvents}
 use Rattle.rules.specs.RefusalsBack.{RefusingBack}
 

@@ -2,7 +2,7 @@
 use mathlib.Core.Path.{refl}
 use Rattle.rules.specs.Opened.{all-rules}
 use Rattle.rules.specs.Rehearsals.{pair}
-use Rattle.rules.specs.Told.{times}
+use Rattle.rules.specs.Outcomes.{times}
 use Rattle.rules.specs.RefusalsBuild.{RefusingBuild}
 
 pub refusing-build : RefusingBuild

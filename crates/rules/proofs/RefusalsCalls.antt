@@ -2,7 +2,7 @@
 use mathlib.Core.Path.{refl}
 use Rattle.rules.specs.Opened.{all-rules}
 use Rattle.rules.specs.Rehearsals.{pair, carryOn, outs, answers, numbers, returned}
-use Rattle.rules.specs.Told.{times}
+use Rattle.rules.specs.Outcomes.{times}
 use Rattle.rules.specs.Samples.{manyEvents}
 use Rattle.rules.specs.RefusalsCalls.{RefusingCalls}
 
@@ -37,9 +37,9 @@ refusing-calls = record {
   r20 = λ c. refl;
   r20-batch = λ c. refl;
   r21 = λ c. refl;
-  again-answers = refl;
-  again-numbers = refl;
-  again-values = refl;
+  run-again-answers = refl;
+  run-again-numbers = refl;
+  run-again-values = refl;
   r22 = λ c. refl;
   order-20-21 = λ c. refl;
   order-20-22 = λ c. refl;

@@ -1,13 +1,13 @@
 -- Each holds by computation.
 use mathlib.Core.Path.{refl}
 use Rattle.rules.specs.Opened.{all-rules}
-use Rattle.rules.specs.Told.{reach, times}
+use Rattle.rules.specs.Outcomes.{stateAfter, times}
 use Rattle.rules.specs.RefusalsForeign.{RefusingForeign, manyInHand}
 
 pub refusing-foreign : RefusingForeign
-unfolding all-rules reach times manyInHand
+unfolding all-rules stateAfter times manyInHand
 refusing-foreign = record {
-  good-reached = refl;
+  valid-reached = refl;
   r11 = refl;
   r11-not = refl;
   r11-initial = λ c. refl;

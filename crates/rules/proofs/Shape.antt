@@ -10,7 +10,7 @@ use borrow.Author.Tests.{leb-false, ltb-false, eqb-true, eqb-false, lt-leb, le-l
 use Rattle.rules.specs.Base.{any, anyOf, nonEmpty, rising}
 use Rattle.rules.specs.State.{Event, Edge, Stored, unset, State}
 use Rattle.rules.specs.Pending.{before}
-use Rattle.rules.specs.Foreign.{longEvent, overLimit, strangeEdge, strangeEvent, strangeId, badEdges, atTop, isUnset, byProcess, clauses, foreign}
+use Rattle.rules.specs.Foreign.{longPayload, overLimit, unknownIdEdge, unknownIdEvent, unknownId, duplicateOrSelfEdges, horizonIsMax, isUnset, byProcess, clauses, foreign}
 use Rattle.rules.proofs.Tests.{or-left, or-right, or-both, and-other, not-false, not-of-true, not-both}
 use Rattle.rules.proofs.Lists.{All, all-map, any-none, none-any}
 
@@ -35,7 +35,7 @@ pub record Sized (n lookahead : ℕ) (hs : List ℕ) : Type 0 where
 pub record Wired (n : ℕ) (es : List Edge) : Type 0 where
   pub few : length es ≤ 512
   pub joined : All (Joined n) es
-  pub once : badEdges es ≡ false
+  pub once : duplicateOrSelfEdges es ≡ false
 
 pub record Queued (n next : ℕ) (q : List Event) : Type 0 where
   pub few : length q ≤ 512
@@ -51,7 +51,7 @@ pub record Held (n : ℕ) (bs : List Event) : Type 0 where
   pub order : rising byProcess bs ≡ true
 
 pub record Runs (limits : Stored) (bs : List Event) (running : Bool) : Type 0 where
-  pub below : atTop limits ≡ false
+  pub below : horizonIsMax limits ≡ false
   pub stored : running && isUnset limits ≡ false
   pub opened : nonEmpty bs && not running ≡ false
 
@@ -62,23 +62,23 @@ pub record Shaped (s : State) : Type 0 where
   pub held : Held (s .n) (s .batch)
   pub runs : Runs (s .stored) (s .batch) (s .running)
 
-long-short : (e : Event) → longEvent e ≡ false → Short e
+long-short : (e : Event) → longPayload e ≡ false → Short e
 long-short e h = record { payload = ltb-false 16 (length (e .payload)) h }
 
-short-long : (e : Event) → Short e → longEvent e ≡ false
+short-long : (e : Event) → Short e → longPayload e ≡ false
 short-long e h = le-ltb 16 (length (e .payload)) (h .payload)
 
-strange-known : (n : ℕ) (e : Event) → strangeEvent n e ≡ false → Known n e
-strange-known n e h = record { source = leb-false n _ (or-left (leb n (e .source)) (leb n (e .destination)) h); destination = leb-false n _ (or-right (leb n (e .source)) (leb n (e .destination)) h) }
+unknown-known : (n : ℕ) (e : Event) → unknownIdEvent n e ≡ false → Known n e
+unknown-known n e h = record { source = leb-false n _ (or-left (leb n (e .source)) (leb n (e .destination)) h); destination = leb-false n _ (or-right (leb n (e .source)) (leb n (e .destination)) h) }
 
-known-strange : (n : ℕ) (e : Event) → Known n e → strangeEvent n e ≡ false
-known-strange n e h = or-both (leb n (e .source)) (leb n (e .destination)) (lt-leb n _ (h .source)) (lt-leb n _ (h .destination))
+known-unknown : (n : ℕ) (e : Event) → Known n e → unknownIdEvent n e ≡ false
+known-unknown n e h = or-both (leb n (e .source)) (leb n (e .destination)) (lt-leb n _ (h .source)) (lt-leb n _ (h .destination))
 
-strange-joined : (n : ℕ) (e : Edge) → strangeEdge n e ≡ false → Joined n e
-strange-joined n e h = record { source = leb-false n _ (or-left (leb n (e .source)) (leb n (e .destination)) h); destination = leb-false n _ (or-right (leb n (e .source)) (leb n (e .destination)) h) }
+unknown-joined : (n : ℕ) (e : Edge) → unknownIdEdge n e ≡ false → Joined n e
+unknown-joined n e h = record { source = leb-false n _ (or-left (leb n (e .source)) (leb n (e .destination)) h); destination = leb-false n _ (or-right (leb n (e .source)) (leb n (e .destination)) h) }
 
-joined-strange : (n : ℕ) (e : Edge) → Joined n e → strangeEdge n e ≡ false
-joined-strange n e h = or-both (leb n (e .source)) (leb n (e .destination)) (lt-leb n _ (h .source)) (lt-leb n _ (h .destination))
+joined-unknown : (n : ℕ) (e : Edge) → Joined n e → unknownIdEdge n e ≡ false
+joined-unknown n e h = or-both (leb n (e .source)) (leb n (e .destination)) (lt-leb n _ (h .source)) (lt-leb n _ (h .destination))
 
 -- From a test of every element to a fact of every element, and back.
 told : {A : Type 0} (f : A → Bool) (P : A → Type 0) → ((a : A) → f a ≡ false → P a) → (xs : List A) → any f xs ≡ false → All P xs
@@ -97,11 +97,11 @@ unfolding anyOf
 none-of ts i = none-any (λ t. t) ts i
 
 pub shaped : (s : State) → foreign s ≡ false → Shaped s
-unfolding foreign overLimit strangeId
+unfolding foreign overLimit unknownId
 shaped s h =
     let c = alls (clauses s) h in
-    let l = alls (ltb 512 (length (s .edges)) ∷ ltb 512 (length (s .pending)) ∷ ltb 64 (length (s .batch)) ∷ any longEvent (s .pending) ∷ any longEvent (s .batch) ∷ []) (c .1 .1 .0) in
-    let k = alls (any (strangeEdge (s .n)) (s .edges) ∷ any (strangeEvent (s .n)) (s .pending) ∷ any (strangeEvent (s .n)) (s .batch) ∷ []) (c .1 .1 .1 .0) in
+    let l = alls (ltb 512 (length (s .edges)) ∷ ltb 512 (length (s .pending)) ∷ ltb 64 (length (s .batch)) ∷ any longPayload (s .pending) ∷ any longPayload (s .batch) ∷ []) (c .1 .1 .0) in
+    let k = alls (any (unknownIdEdge (s .n)) (s .edges) ∷ any (unknownIdEvent (s .n)) (s .pending) ∷ any (unknownIdEvent (s .n)) (s .batch) ∷ []) (c .1 .1 .1 .0) in
     record {
       sized = record {
         some = let x : eqb (s .n) 0 ≡ false = or-left (eqb (s .n) 0) (ltb 64 (s .n)) (c .0) in let z : (s .n ≡ 0 → ⊥) = eqb-false (s .n) 0 x in omega arith;
@@ -109,34 +109,34 @@ shaped s h =
         ahead = let z : (s .lookahead ≡ 0 → ⊥) = eqb-false (s .lookahead) 0 (c .1 .0) in omega arith;
         wide = eqb-true (length (s .horizons)) (s .n) (not-false _ (c .1 .1 .1 .1 .1 .1 .1 .1 .1 .1 .1 .0));
       };
-      wired = record { few = ltb-false 512 _ (l .0); joined = told (strangeEdge (s .n)) (Joined (s .n)) (strange-joined (s .n)) (s .edges) (k .0); once = c .1 .1 .1 .1 .0 };
+      wired = record { few = ltb-false 512 _ (l .0); joined = told (unknownIdEdge (s .n)) (Joined (s .n)) (unknown-joined (s .n)) (s .edges) (k .0); once = c .1 .1 .1 .1 .0 };
       queued = record {
         few = ltb-false 512 _ (l .1 .0);
-        short = told longEvent Short long-short (s .pending) (l .1 .1 .1 .0);
-        known = told (strangeEvent (s .n)) (Known (s .n)) (strange-known (s .n)) (s .pending) (k .1 .0);
+        short = told longPayload Short long-short (s .pending) (l .1 .1 .1 .0);
+        known = told (unknownIdEvent (s .n)) (Known (s .n)) (unknown-known (s .n)) (s .pending) (k .1 .0);
         order = not-false _ (c .1 .1 .1 .1 .1 .0);
         numbers = told (λ (e : Event). leb (s .next) (e .sequence)) (λ (e : Event). e .sequence < s .next) (λ e x. leb-false (s .next) (e .sequence) x) (s .pending) (c .1 .1 .1 .1 .1 .1 .0);
       };
       held = record {
         few = ltb-false 64 _ (l .1 .1 .0);
-        short = told longEvent Short long-short (s .batch) (l .1 .1 .1 .1 .0);
-        known = told (strangeEvent (s .n)) (Known (s .n)) (strange-known (s .n)) (s .batch) (k .1 .1 .0);
+        short = told longPayload Short long-short (s .batch) (l .1 .1 .1 .1 .0);
+        known = told (unknownIdEvent (s .n)) (Known (s .n)) (unknown-known (s .n)) (s .batch) (k .1 .1 .0);
         order = not-false _ (c .1 .1 .1 .1 .1 .1 .1 .1 .1 .1 .0);
       };
       runs = record { below = c .1 .1 .1 .1 .1 .1 .1 .0; stored = c .1 .1 .1 .1 .1 .1 .1 .1 .0; opened = c .1 .1 .1 .1 .1 .1 .1 .1 .1 .0 };
     }
 
 pub passes-11 : (s : State) → Shaped s → foreign s ≡ false
-unfolding foreign overLimit strangeId
+unfolding foreign overLimit unknownId
 passes-11 s i =
     none-of (clauses s) (
       or-both (eqb (s .n) 0) (ltb 64 (s .n)) (ne-eqb (s .n) 0 (λ e. omega (arith, i .sized .some))) (le-ltb 64 (s .n) (i .sized .few)),
       (
         ne-eqb (s .lookahead) 0 (λ e. omega (arith, i .sized .ahead)),
         (
-          none-of _ (le-ltb 512 _ (i .wired .few), (le-ltb 512 _ (i .queued .few), (le-ltb 64 _ (i .held .few), (tells longEvent Short short-long (s .pending) (i .queued .short), (tells longEvent Short short-long (s .batch) (i .held .short), tt))))),
+          none-of _ (le-ltb 512 _ (i .wired .few), (le-ltb 512 _ (i .queued .few), (le-ltb 64 _ (i .held .few), (tells longPayload Short short-long (s .pending) (i .queued .short), (tells longPayload Short short-long (s .batch) (i .held .short), tt))))),
           (
-            none-of _ (tells (strangeEdge (s .n)) (Joined (s .n)) (joined-strange (s .n)) (s .edges) (i .wired .joined), (tells (strangeEvent (s .n)) (Known (s .n)) (known-strange (s .n)) (s .pending) (i .queued .known), (tells (strangeEvent (s .n)) (Known (s .n)) (known-strange (s .n)) (s .batch) (i .held .known), tt))),
+            none-of _ (tells (unknownIdEdge (s .n)) (Joined (s .n)) (joined-unknown (s .n)) (s .edges) (i .wired .joined), (tells (unknownIdEvent (s .n)) (Known (s .n)) (known-unknown (s .n)) (s .pending) (i .queued .known), (tells (unknownIdEvent (s .n)) (Known (s .n)) (known-unknown (s .n)) (s .batch) (i .held .known), tt))),
             (
               i .wired .once,
               (
@@ -172,7 +172,7 @@ unset-is : (l : Stored) → l ≡ unset → isUnset l ≡ true
 unfolding isUnset
 unset-is l e = ap isUnset e
 
-pub homeless-never {κ} : {C : Type κ} (s : State) → Shaped s → nonEmpty (s .batch) ≡ true → s .stored ≡ unset → C
-homeless-never s w b e =
+pub no-horizon-never {κ} : {C : Type κ} (s : State) → Shaped s → nonEmpty (s .batch) ≡ true → s .stored ≡ unset → C
+no-horizon-never s w b e =
     let r : s .running ≡ true = not-false (s .running) (and-other (nonEmpty (s .batch)) (not (s .running)) b (w .runs .opened)) in
     not-both (unset-is (s .stored) e) (and-other (s .running) (isUnset (s .stored)) r (w .runs .stored))

@@ -8,12 +8,12 @@ use lib.Dec.{eqb}
 use lib.ListN.{length}
 use borrow.Author.Tests.{lt-leb, lt-ltb, ltb-false}
 use Rattle.rules.specs.Base.{upTo, upFrom, any, nonEmpty, rising}
-use Rattle.rules.specs.State.{Event, Message, Edge, Stored, stored, State, Counters, numbered, withPending, withRun, withBatch, closed, poison, top}
+use Rattle.rules.specs.State.{Event, Message, Edge, Stored, stored, State, Counters, numbered, withPending, withRun, withBatch, closed, poison, maxTick}
 use Rattle.rules.specs.Rows.{Out, Row}
 use Rattle.rules.specs.Pending.{joins, insert, queue}
-use Rattle.rules.specs.Foreign.{badEdges, atTop, isUnset, byProcess}
+use Rattle.rules.specs.Foreign.{duplicateOrSelfEdges, horizonIsMax, isUnset, byProcess}
 use Rattle.rules.specs.Refresh.{raised, refreshed}
-use Rattle.rules.specs.Step.{take, takenAt, raisedEdges, newHorizons, advanced}
+use Rattle.rules.specs.Step.{takeEligible, takenAt, raisedEdges, newHorizons, advanced}
 use Rattle.rules.specs.HandBack.{Emission, malformed, processRows, messages, handled}
 use Rattle.rules.specs.Calls.{Call, AddInitial, Begin, Step, HandBack, rule}
 use Rattle.rules.proofs.Tests.{by-bool, and-off, and-other, not-false, not-both}
@@ -71,8 +71,8 @@ unfolding raisedEdges any
 joins-raised s H a b [] = refl
 joins-raised s H a b (e ∷ es) = ap (λ (t : Bool). (eqb (e .source) a && eqb (e .destination) b) || t) (joins-raised s H a b es)
 
-once-raised : (s : State) (H : ℕ) (es : List Edge) → badEdges (raisedEdges s H es) ≡ badEdges es
-unfolding raisedEdges badEdges
+once-raised : (s : State) (H : ℕ) (es : List Edge) → duplicateOrSelfEdges (raisedEdges s H es) ≡ duplicateOrSelfEdges es
+unfolding raisedEdges duplicateOrSelfEdges
 once-raised s H [] = refl
 once-raised s H (e ∷ es) = rw (joins-raised s H (e .source) (e .destination) es, once-raised s H es)
 
@@ -88,7 +88,7 @@ held-none : (n : ℕ) → Held n []
 unfolding rising
 held-none n = record { few = omega arith; short = tt; known = tt; order = refl }
 
-held-taken : (es : List Edge) (H n k : ℕ) (q : List Event) → n ≤ 64 → All Short q → All (Known n) q → Held n (take es H (upFrom 0 n) k q .events)
+held-taken : (es : List Edge) (H n k : ℕ) (q : List Event) → n ≤ 64 → All Short q → All (Known n) q → Held n (takeEligible es H (upFrom 0 n) k q .events)
 held-taken es H n k q f a b = record {
   few = omega (arith, take-few es H (upFrom 0 n) k q, upFrom-length 0 n);
   short = take-all Short es H (upFrom 0 n) k q a .events;
@@ -96,7 +96,7 @@ held-taken es H n k q f a b = record {
   order = pairs-rising byProcess Ascend (λ x y h. lt-ltb (x .destination) (y .destination) h) _ (take-rises es H 0 n k q .rise);
 }
 
-queued-taken : (es : List Edge) (H n next k : ℕ) (ps : List ℕ) (q : List Event) → Queued n next q → Queued n next (take es H ps k q .left)
+queued-taken : (es : List Edge) (H n next k : ℕ) (ps : List ℕ) (q : List Event) → Queued n next q → Queued n next (takeEligible es H ps k q .left)
 queued-taken es H n next k ps q i = record {
   few = omega (arith, take-shorter es H ps k q, i .few);
   short = take-all Short es H ps k q (i .short) .left;
@@ -107,7 +107,7 @@ queued-taken es H n next k ps q i = record {
 
 -- Runs
 
-runs-empty : (l : Stored) (running : Bool) → atTop l ≡ false → running && isUnset l ≡ false → Runs l [] running
+runs-empty : (l : Stored) (running : Bool) → horizonIsMax l ≡ false → running && isUnset l ≡ false → Runs l [] running
 unfolding nonEmpty
 runs-empty l running a b = record { below = a; stored = b; opened = refl }
 
@@ -115,9 +115,9 @@ runs-closed : (l : Stored) (bs : List Event) (running : Bool) → bs ≡ [] → 
 unfolding nonEmpty
 runs-closed l bs running z i = record { below = i .below; stored = refl; opened = and-off (nonEmpty bs) true (ap nonEmpty z) }
 
-runs-begun : (h b : ℕ) (bs : List Event) → bs ≡ [] → h < top → Runs (stored h b) bs true
-unfolding atTop isUnset nonEmpty
-runs-begun h b bs z l = record { below = lt-leb top h l; stored = refl; opened = and-off (nonEmpty bs) false (ap nonEmpty z) }
+runs-begun : (h b : ℕ) (bs : List Event) → bs ≡ [] → h < maxTick → Runs (stored h b) bs true
+unfolding horizonIsMax isUnset nonEmpty
+runs-begun h b bs z l = record { below = lt-leb maxTick h l; stored = refl; opened = and-off (nonEmpty bs) false (ap nonEmpty z) }
 
 runs-batch : (l : Stored) (bs cs : List Event) (running : Bool) → running ≡ true → Runs l bs running → Runs l cs running
 runs-batch l bs cs running r i = record { below = i .below; stored = i .stored; opened = rw r (and-false (nonEmpty cs)) }
@@ -197,24 +197,24 @@ shape-refreshed s h w = record { sized = sized-raised (s .n) (s .lookahead) (s .
 
 pub shape-kept : (s : State) (c : Counters) (k : Call) → Shaped s → Shapes (rule s c k)
 unfolding rule Shapes
-shape-kept s c (AddInitial m) w = by-initial s c m (λ o. Shapes o) (record { alien = λ _. w; away = λ _ _. w; accept = λ i. shape-initial s c w m i })
-shape-kept s c (Begin h b) w = by-begin s c h b (λ o. Shapes o) (record { alien = λ _. w; away = λ _ _. w; accept = λ i. shape-begin s c w h b i })
+shape-kept s c (AddInitial m) w = by-initial s c m (λ o. Shapes o) (record { foreign = λ _. w; refused = λ _ _. w; accept = λ i. shape-initial s c w m i })
+shape-kept s c (Begin h b) w = by-begin s c h b (λ o. Shapes o) (record { foreign = λ _. w; refused = λ _ _. w; accept = λ i. shape-begin s c w h b i })
 shape-kept s c Step w = by-step s c (λ o. Shapes o) (record {
-  alien = λ _. w;
-  away = λ _ _. w;
+  foreign = λ _. w;
+  refused = λ _ _. w;
   batch = λ h b i _. shape-batch s c w h b i;
   spends = λ h b i. shape-closed s c w (i .empty);
   rise = λ h b i _. shape-advanced s c w h;
   finish = λ h b i _ _. shape-closed (advanced s h) c (shape-advanced s c w h) (unfold refreshed in i .steps .empty);
-  stuck = λ h b i _ _. shape-poison (advanced s h) c (shape-advanced s c w h);
+  last-branch = λ h b i _ _. shape-poison (advanced s h) c (shape-advanced s c w h);
 })
 shape-kept s c (HandBack mask xs) w = by-back s c mask xs (λ o. Shapes o) (record {
-  alien = λ _. w;
-  dead = λ _. w;
+  foreign = λ _. w;
+  poisoned = λ _. w;
   empty = λ _. w;
   malformed = w;
   lost = λ _ _ _. shape-poison s c w;
-  homeless = λ _ _. w;
+  no-horizon = λ _ _. w;
   spends = λ h b i. shape-closed (handled s xs) c (shape-handled s c w mask xs h b i) refl;
   commits = λ h b i. shape-refreshed (handled s xs) h (shape-handled s c w mask xs h b i);
 })

@@ -11,7 +11,7 @@ use Rattle.rules.specs.Base.{if_then_else_, Maybe, none, some, upFrom}
 use Rattle.rules.specs.State.{Event, Edge}
 use Rattle.rules.specs.Pending.{firstOf, withoutFirst}
 use Rattle.rules.specs.Frontiers.{safe, below, eligible}
-use Rattle.rules.specs.Step.{Taken, takeOne, take}
+use Rattle.rules.specs.Step.{BatchTaken, takeEligibleAt, takeEligible}
 use Rattle.rules.proofs.Lists.{All, all-map}
 use Rattle.rules.proofs.Order.{Pairs, Sorted, all-without, all-first, sorted-without, first-destination}
 use Rattle.rules.proofs.Tally.{eligible-first}
@@ -27,49 +27,49 @@ below-safe k (some f) e h = go (ltb (f .tick) k) refl h
     go false d h = let z : _≡_ {A = ℕ} 0 1 = cc in absurd (omega arith)
 
 -- What taking does at one process, for a statement about what is taken and left: nobody, no room, or its first event.
-module _ (es : List Edge) (H : ℕ) (Q : List Event → Taken → Type 0) where
+module _ (es : List Edge) (H : ℕ) (Q : List Event → BatchTaken → Type 0) where
   pub take-cases : (p : ℕ) (ps : List ℕ) (k : ℕ) (q : List Event)
-      → (Q q (take es H ps k q))
+      → (Q q (takeEligible es H ps k q))
       → (Q q (record { events = []; left = q }))
-      → ((j : ℕ) (e : Event) → k ≡ suc j → firstOf q p ≡ some e → e .tick < safe es H p → Q q (record { events = e ∷ take es H ps j (withoutFirst q p) .events; left = take es H ps j (withoutFirst q p) .left }))
-      → Q q (take es H (p ∷ ps) k q)
-  unfolding take takeOne eligible
+      → ((j : ℕ) (e : Event) → k ≡ suc j → firstOf q p ≡ some e → e .tick < safe es H p → Q q (record { events = e ∷ takeEligible es H ps j (withoutFirst q p) .events; left = takeEligible es H ps j (withoutFirst q p) .left }))
+      → Q q (takeEligible es H (p ∷ ps) k q)
+  unfolding takeEligible takeEligibleAt eligible
   take-cases p ps k q a b c = go (below (safe es H p) (firstOf q p)) refl k refl
     where
-      go : (m : Maybe Event) → below (safe es H p) (firstOf q p) ≡ m → (j : ℕ) → k ≡ j → Q q (takeOne m p q j (take es H ps))
+      go : (m : Maybe Event) → below (safe es H p) (firstOf q p) ≡ m → (j : ℕ) → k ≡ j → Q q (takeEligibleAt m p q j (takeEligible es H ps))
       go none e j h = rw (← h) a
       go (some f) e zero h = b
       go (some f) e (suc j) h = c j f h (eligible-first _ _ f e) (below-safe _ _ f e)
 
 -- What holds of all pending events holds of those taken and of those left.
-pub record Both (P : Event → Type 0) (t : Taken) : Type 0 where
+pub record Both (P : Event → Type 0) (t : BatchTaken) : Type 0 where
   pub events : All P (t .events)
   pub left : All P (t .left)
 
-pub take-all : (P : Event → Type 0) (es : List Edge) (H : ℕ) (ps : List ℕ) (k : ℕ) (q : List Event) → All P q → Both P (take es H ps k q)
-unfolding take
+pub take-all : (P : Event → Type 0) (es : List Edge) (H : ℕ) (ps : List ℕ) (k : ℕ) (q : List Event) → All P q → Both P (takeEligible es H ps k q)
+unfolding takeEligible
 take-all P es H [] k q i = record { events = tt; left = i }
 take-all P es H (p ∷ ps) k q i =
     take-cases es H (λ _ t. Both P t) p ps k q (take-all P es H ps k q i) (record { events = tt; left = i })
     (λ j e h f l. let r = take-all P es H ps j (withoutFirst q p) (all-without P q p i) in record { events = (all-first P q p e f i, r .events); left = r .left })
 
 -- What is left is still in order.
-pub take-sorted : (es : List Edge) (H : ℕ) (ps : List ℕ) (k : ℕ) (q : List Event) → Sorted q → Sorted (take es H ps k q .left)
-unfolding take
+pub take-sorted : (es : List Edge) (H : ℕ) (ps : List ℕ) (k : ℕ) (q : List Event) → Sorted q → Sorted (takeEligible es H ps k q .left)
+unfolding takeEligible
 take-sorted es H [] k q i = i
 take-sorted es H (p ∷ ps) k q i =
     take-cases es H (λ _ t. Sorted (t .left)) p ps k q (take-sorted es H ps k q i) i (λ j e h f l. take-sorted es H ps j (withoutFirst q p) (sorted-without q p i))
 
 -- At most one event of each process.
-pub take-few : (es : List Edge) (H : ℕ) (ps : List ℕ) (k : ℕ) (q : List Event) → length (take es H ps k q .events) ≤ length ps
-unfolding take
+pub take-few : (es : List Edge) (H : ℕ) (ps : List ℕ) (k : ℕ) (q : List Event) → length (takeEligible es H ps k q .events) ≤ length ps
+unfolding takeEligible
 take-few es H [] k q = omega arith
 take-few es H (p ∷ ps) k q =
     take-cases es H (λ _ t. length (t .events) ≤ suc (length ps)) p ps k q (omega (arith, take-few es H ps k q)) (omega arith) (λ j e h f l. omega (arith, take-few es H ps j (withoutFirst q p)))
 
 -- Each event taken is below the frontier of its process.
-pub take-safe : (es : List Edge) (H : ℕ) (ps : List ℕ) (k : ℕ) (q : List Event) → All (λ (b : Event). b .tick < safe es H (b .destination)) (take es H ps k q .events)
-unfolding take
+pub take-safe : (es : List Edge) (H : ℕ) (ps : List ℕ) (k : ℕ) (q : List Event) → All (λ (b : Event). b .tick < safe es H (b .destination)) (takeEligible es H ps k q .events)
+unfolding takeEligible
 take-safe es H [] k q = tt
 take-safe es H (p ∷ ps) k q =
     take-cases es H (λ _ t. All (λ (b : Event). b .tick < safe es H (b .destination)) (t .events)) p ps k q (take-safe es H ps k q) tt
@@ -79,15 +79,15 @@ take-safe es H (p ∷ ps) k q =
 abbrev pub Ascend : Event → Event → Type 0
 Ascend e f = e .destination < f .destination
 
-pub record Rises (i : ℕ) (t : Taken) : Type 0 where
+pub record Rises (i : ℕ) (t : BatchTaken) : Type 0 where
   pub from : All (λ (e : Event). i ≤ e .destination) (t .events)
   pub rise : Pairs Ascend (t .events)
 
-rises-later : (i : ℕ) (t : Taken) → Rises (suc i) t → Rises i t
+rises-later : (i : ℕ) (t : BatchTaken) → Rises (suc i) t → Rises i t
 rises-later i t r = record { from = all-map (λ (e : Event). suc i ≤ e .destination) (λ (e : Event). i ≤ e .destination) (λ e x. omega arith) (t .events) (r .from); rise = r .rise }
 
-pub take-rises : (es : List Edge) (H i n k : ℕ) (q : List Event) → Rises i (take es H (upFrom i n) k q)
-unfolding take upFrom
+pub take-rises : (es : List Edge) (H i n k : ℕ) (q : List Event) → Rises i (takeEligible es H (upFrom i n) k q)
+unfolding takeEligible upFrom
 take-rises es H i zero k q = record { from = tt; rise = tt }
 take-rises es H i (suc n) k q =
     take-cases es H (λ _ t. Rises i t) i (upFrom (suc i) n) k q (rises-later i _ (take-rises es H (suc i) n k q)) (record { from = tt; rise = tt })
@@ -96,7 +96,7 @@ take-rises es H i (suc n) k q =
     let d : e .destination ≡ i = first-destination q i e f in
     record {
       from = (omega arith, rises-later i _ r .from);
-      rise = (all-map (λ (x : Event). suc i ≤ x .destination) (Ascend e) (λ x y. omega arith) (take es H (upFrom (suc i) n) j (withoutFirst q i) .events) (r .from), r .rise);
+      rise = (all-map (λ (x : Event). suc i ≤ x .destination) (Ascend e) (λ x y. omega arith) (takeEligible es H (upFrom (suc i) n) j (withoutFirst q i) .events) (r .from), r .rise);
     })
 
 pub upFrom-length : (i n : ℕ) → length (upFrom i n) ≡ n

@@ -7,16 +7,16 @@ use native.Mathlib.Omega.{arith}
 use lib.Dec.{ltb, eqb}
 use lib.ListN.{length}
 use Rattle.rules.specs.Base.{if_then_else_, Maybe, none, some, upTo}
-use Rattle.rules.specs.State.{Event, Message, Edge, State, Counters, numbered, most}
+use Rattle.rules.specs.State.{Event, Message, Edge, State, Counters, numbered, maxCount}
 use Rattle.rules.specs.Answers.{Answer}
 use Rattle.rules.specs.Rows.{Out, out}
 use Rattle.rules.specs.Pending.{insert, firstOf, withoutFirst, queue}
 use Rattle.rules.specs.Frontiers.{safe, below, eligible}
-use Rattle.rules.specs.Step.{Taken, takeOne, take, takenAt, countRaised}
+use Rattle.rules.specs.Step.{BatchTaken, takeEligibleAt, takeEligible, takenAt, countRaised}
 use Rattle.rules.specs.HandBack.{Emission, messages}
 use Rattle.rules.specs.Calls.{Call}
 use Rattle.rules.specs.History
-use Rattle.rules.specs.History.{Entry, History, onward, isHandBack, isAdvanced, isBatch, initials, inHand, emitted, remote, rounds, nulls, workers, used, begins, adds, commits}
+use Rattle.rules.specs.History.{Entry, History, appendCall, isHandBack, isAdvanced, isBatch, initials, inHand, emitted, remote, rounds, nullMessages, workerCount, used, begins, adds, commits}
 use Rattle.rules.proofs.Tests.{by-test, and-off}
 use Rattle.rules.proofs.Counts.{entryOf, Unhandled, unhandled, Turns, no-turn, no-initial, used-same, hand-stays}
 
@@ -56,20 +56,20 @@ eligible-first k (some f) e h = go (ltb (f .tick) k) h
     go true h = h
     go false h = cc
 
-Split : List Event → Taken → Type 0
+Split : List Event → BatchTaken → Type 0
 Split q t = length (t .left) + length (t .events) ≡ length q
 
-take-splits : (es : List Edge) (H : ℕ) (ps : List ℕ) (room : ℕ) (q : List Event) → Split q (take es H ps room q)
-unfolding take Split takeOne eligible
+take-splits : (es : List Edge) (H : ℕ) (ps : List ℕ) (room : ℕ) (q : List Event) → Split q (takeEligible es H ps room q)
+unfolding takeEligible Split takeEligibleAt eligible
 take-splits es H [] room q = omega arith
 take-splits es H (p ∷ ps) room q = go (below (safe es H p) (firstOf q p)) refl (take-splits es H ps) room
   where
-    go : (m : Maybe Event) → below (safe es H p) (firstOf q p) ≡ m → ((k : ℕ) (r : List Event) → Split r (take es H ps k r)) → (k : ℕ) → Split q (takeOne m p q k (take es H ps))
+    go : (m : Maybe Event) → below (safe es H p) (firstOf q p) ≡ m → ((k : ℕ) (r : List Event) → Split r (takeEligible es H ps k r)) → (k : ℕ) → Split q (takeEligibleAt m p q k (takeEligible es H ps))
     go none h ih k = ih k q
     go (some e) h ih zero = omega arith
     go (some e) h ih (suc k) = omega (arith, ih k (withoutFirst q p), length-without q p e (eligible-first _ _ e h))
 
-pub take-shorter : (es : List Edge) (H : ℕ) (ps : List ℕ) (room : ℕ) (q : List Event) → length (take es H ps room q .left) ≤ length q
+pub take-shorter : (es : List Edge) (H : ℕ) (ps : List ℕ) (room : ℕ) (q : List Event) → length (takeEligible es H ps room q .left) ≤ length q
 unfolding Split
 take-shorter es H ps room q = omega (arith, take-splits es H ps room q)
 
@@ -83,26 +83,26 @@ pub record Kept (es : List Entry) (s : State) : Type 0 where
   pub hand : inHand es ≡ s .batch
   pub lost : s .poisoned ≡ true → s .batch ≡ []
   pub sum : s .poisoned ≡ false → initials es + emitted es ≡ History.handled es + length (s .pending) + length (s .batch)
-  pub used : s .used ≡ min most (used es)
+  pub used : s .used ≡ min maxCount (used es)
 
 -- The counters are the counts, or 2^64 - 1 where one is larger.
 pub record Counted (es : List Entry) (c : Counters) : Type 0 where
-  pub handled : c .handled ≡ min most (History.handled es)
-  pub emitted : c .emitted ≡ min most (emitted es)
-  pub remote : c .remote ≡ min most (remote es)
-  pub rounds : c .rounds ≡ min most (rounds es)
-  pub nulls : c .nulls ≡ min most (nulls es)
-  pub workers : c .workers ≡ workers es
+  pub handled : c .handled ≡ min maxCount (History.handled es)
+  pub emitted : c .emitted ≡ min maxCount (emitted es)
+  pub remote : c .remote ≡ min maxCount (remote es)
+  pub rounds : c .rounds ≡ min maxCount (rounds es)
+  pub «null_messages» : c .«null_messages» ≡ min maxCount (nullMessages es)
+  pub «worker_count» : c .«worker_count» ≡ workerCount es
 
 pub record Tallied (y : History) : Type 0 where
   pub kept : Kept (y .entries) (y .now)
   pub counted : Counted (y .entries) (y .counters)
 
 unfoldable pub Tells : History → Call → Out → Type 0
-Tells y k o = Tallied (onward y k o)
+Tells y k o = Tallied (appendCall y k o)
 
 pub counted-same : (es fs : List Entry) (c : Counters) → Unhandled es fs → Turns 0 0 es fs → Counted es c → Counted fs c
-counted-same es fs c u t i = record { handled = omega (arith, u .handled, i .handled); emitted = omega (arith, u .emitted, i .emitted); remote = omega (arith, u .remote, i .remote); rounds = omega (arith, t .rounds, i .rounds); nulls = omega (arith, t .nulls, i .nulls); workers = i .workers ∙ sym (u .workers) }
+counted-same es fs c u t i = record { handled = omega (arith, u .handled, i .handled); emitted = omega (arith, u .emitted, i .emitted); remote = omega (arith, u .remote, i .remote); rounds = omega (arith, t .rounds, i .rounds); «null_messages» = omega (arith, t .«null_messages», i .«null_messages»); «worker_count» = i .«worker_count» ∙ sym (u .«worker_count») }
 
 -- A call that counts nothing, and leaves a state with the same numbers of events.
 pub record Calm (s t : State) : Type 0 where
@@ -128,7 +128,7 @@ calm y k a t q h c i =
         hand = h;
         lost = c .lost;
         sum = λ p. omega (arith, i .kept .sum (c .healthy p), c .events p, u .handled, u .emitted, no-initial e (y .entries) (q .no-event));
-        used = c .used ∙ i .kept .used ∙ ap (min most) (sym (used-same e (y .entries) (q .no-run) (q .no-commit)));
+        used = c .used ∙ i .kept .used ∙ ap (min maxCount) (sym (used-same e (y .entries) (q .no-run) (q .no-commit)));
       };
       counted = counted-same (y .entries) (e ∷ y .entries) (y .counters) u (no-turn e (y .entries) (q .no-commit) (q .no-advance)) (i .counted);
     }
@@ -138,6 +138,6 @@ pub unmoved : (y : History) → Tallied y → Calm (y .now) (y .now)
 unmoved y i = record { lost = i .kept .lost; healthy = λ p. p; events = λ _. refl; used = refl }
 
 -- A call other than a hand back that counts nothing and leaves the batch.
-pub away : (y : History) (k : Call) (a : Answer) (t : State) → Quiet (entryOf k a (countRaised (y .now .edges) (t .edges))) → isHandBack k ≡ false → isBatch a ≡ false
+pub answered-refusal : (y : History) (k : Call) (a : Answer) (t : State) → Quiet (entryOf k a (countRaised (y .now .edges) (t .edges))) → isHandBack k ≡ false → isBatch a ≡ false
     → t .batch ≡ y .now .batch → Calm (y .now) t → Tallied y → Tells y k (out a t (y .counters))
-away y k a t q h b z c i = calm y k a t q (hand-stays (entryOf k a (countRaised (y .now .edges) (t .edges))) (y .entries) b (and-off (isHandBack k) _ h) ∙ i .kept .hand ∙ sym z) c i
+answered-refusal y k a t q h b z c i = calm y k a t q (hand-stays (entryOf k a (countRaised (y .now .edges) (t .edges))) (y .entries) b (and-off (isHandBack k) _ h) ∙ i .kept .hand ∙ sym z) c i

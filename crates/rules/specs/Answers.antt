@@ -135,7 +135,7 @@ pub data Reading : Type 0 where
 
 unfoldable pub readingValues : Reading → List ℕ
 readingValues (Gvt g) = g ∷ []
-readingValues (Counted c u) = c .handled ∷ c .emitted ∷ c .remote ∷ c .rounds ∷ c .nulls ∷ c .workers ∷ u ∷ []
+readingValues (Counted c u) = c .handled ∷ c .emitted ∷ c .remote ∷ c .rounds ∷ c .«null_messages» ∷ c .«worker_count» ∷ u ∷ []
 readingValues (Pending k) = k ∷ []
 readingValues (Earliest t) = t ∷ []
 

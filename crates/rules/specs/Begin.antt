@@ -2,7 +2,7 @@
 use mathlib.Core.List.{List, [], _∷_}
 use Prim.Native.Nat.{ℕ}
 use lib.Dec.{leb, ltb}
-use Rattle.rules.specs.State.{Stored, unset, stored, State, Counters, withRun, top}
+use Rattle.rules.specs.State.{Stored, unset, stored, State, Counters, withRun, maxTick}
 use Rattle.rules.specs.Answers
 use Rattle.rules.specs.Answers.{Accepted}
 use Rattle.rules.specs.Rows.{Row, _⇒_, unless, Out, out, refuse}
@@ -19,7 +19,7 @@ beginRows s h =
     ∷ (s .poisoned ⇒ Answers.Poisoned)
     ∷ (s .running ⇒ Answers.RunOpen)
     ∷ (ltb h (previous (s .stored)) ⇒ Answers.HorizonRegression (previous (s .stored)) h)
-    ∷ (leb top h ⇒ Answers.HorizonOverflow h)
+    ∷ (leb maxTick h ⇒ Answers.HorizonOverflow h)
     ∷ []
 
 -- With the horizon h and the budget b.

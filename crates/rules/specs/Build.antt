@@ -5,7 +5,7 @@ use Prim.Native.Nat.{ℕ, _+_, _^_}
 use lib.Dec.{leb, ltb, eqb}
 use lib.ListN.{length, take, drop}
 use Rattle.rules.specs.Base.{if_then_else_, Maybe, none, some, upTo, any, anyOf, member, sum, count, rising}
-use Rattle.rules.specs.State.{Edge, Counters, State, unset, zeros, most-processes, most-edges}
+use Rattle.rules.specs.State.{Edge, Counters, State, unset, zeros, maxProcesses, maxEdges}
 use Rattle.rules.specs.Answers
 use Rattle.rules.specs.Answers.{Answer, Accepted, Refused}
 use Rattle.rules.specs.Rows.{Row, _⇒_, unless}
@@ -39,15 +39,15 @@ malformedRows a =
     (not (eqb (length (a .sources)) (length (a .counts)))
     ∷ not (rising ltb (a .sources))
     ∷ not (eqb (sum (a .counts)) (length (a .destinations)))
-    ∷ ltb most-edges (length (a .destinations))
+    ∷ ltb maxEdges (length (a .destinations))
     ∷ [])
 
 -- 6: the least of the processes ps that has no row.
-unfoldable pub leastRowless : List ℕ → List ℕ → ℕ
-leastRowless sources [] = 0
-leastRowless sources (p ∷ ps) = if member p sources then leastRowless sources ps else p
+unfoldable pub leastWithoutRow : List ℕ → List ℕ → ℕ
+leastWithoutRow sources [] = 0
+leastWithoutRow sources (p ∷ ps) = if member p sources then leastWithoutRow sources ps else p
 
--- "for each destination in turn 8, 9, 10": those of the source p, after the destinations `seen` of its row.
+-- "for each destination in turn 8, 9, 10": those of the source p, after the destinations `state-of` of its row.
 unfoldable pub destinationRows : ℕ → ℕ → List ℕ → List ℕ → List Row
 destinationRows n p seen [] = []
 destinationRows n p seen (d ∷ ds) =
@@ -66,12 +66,12 @@ topologyRows n (p ∷ sources) (k ∷ counts) ds =
 -- "Build checks 1 to 6, then each row".
 abbrev pub buildRows : Setup → List Row
 buildRows a =
-    (eqb (a .n) 0 || ltb most-processes (a .n) ⇒ Answers.InvalidPartitionCount (a .n))
+    (eqb (a .n) 0 || ltb maxProcesses (a .n) ⇒ Answers.InvalidPartitionCount (a .n))
     ∷ (eqb (a .lookahead) 0 ⇒ Answers.InvalidLookahead)
     ∷ (not (rising ltb (a .ids)) ⇒ Answers.UnorderedProcesses)
     ∷ (ltb 0 (missing (a .ids) (upTo (a .n))) || ltb 0 (unexpected (a .n) (a .ids)) ⇒ Answers.ProcessSetMismatch (missing (a .ids) (upTo (a .n))) (unexpected (a .n) (a .ids)))
     ∷ (malformedRows a ⇒ Answers.MalformedTopology)
-    ∷ (any (λ p. not (member p (a .sources))) (upTo (a .n)) ⇒ Answers.MissingTopologyEntry (leastRowless (a .sources) (upTo (a .n))))
+    ∷ (any (λ p. not (member p (a .sources))) (upTo (a .n)) ⇒ Answers.MissingTopologyEntry (leastWithoutRow (a .sources) (upTo (a .n))))
     ∷ topologyRows (a .n) (a .sources) (a .counts) (a .destinations)
 
 -- The edges of all rows, in the order of the list. "Each edge has a bound, at first L."
@@ -87,10 +87,10 @@ unfoldable pub built : Setup → State
 built a = record { n = a .n; lookahead = a .lookahead; edges = edgesOf (a .lookahead) (a .sources) (a .counts) (a .destinations); pending = []; next = 0; horizons = map (λ p. 0) (upTo (a .n)); gvt = 0; stored = unset; used = 0; batch = []; initial = true; running = false; poisoned = false }
 
 -- "nothing made"; "a refused build leaves the lent counters untouched".
-pub record Made : Type 0 where
+pub record BuildOut : Type 0 where
   pub answer : Answer
   pub made : Maybe State
   pub counters : Counters
 
-unfoldable pub build : Setup → Counters → Made
+unfoldable pub build : Setup → Counters → BuildOut
 build a c = unless (buildRows a) (λ r. record { answer = Refused r; made = none; counters = c }) (record { answer = Accepted; made = some (built a); counters = zeros })

@@ -21,6 +21,6 @@ rule s c Step = step s c
 rule s c (HandBack mask xs) = handBack s c mask xs
 
 -- What the calls of a list give, one after the other.
-unfoldable pub carryOut : State → Counters → List Call → List Out
-carryOut s c [] = []
-carryOut s c (k ∷ ks) = let o = rule s c k in o ∷ carryOut (o .after) (o .counters) ks
+unfoldable pub execute : State → Counters → List Call → List Out
+execute s c [] = []
+execute s c (k ∷ ks) = let o = rule s c k in o ∷ execute (o .after) (o .counters) ks

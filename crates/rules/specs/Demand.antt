@@ -4,11 +4,11 @@ use mathlib.Core.Bool.{false}
 use mathlib.Core.List.{List, [], _∷_, map}
 use Prim.Native.Nat.{ℕ, _+_, _*_, _/_, _≤_, min}
 use lib.ListN.{length}
-use Rattle.rules.specs.State.{Event, most}
+use Rattle.rules.specs.State.{Event, maxCount}
 use Rattle.rules.specs.Answers.{Reading, Read, Counted, Pending, number}
 use Rattle.rules.specs.Build.{Setup}
 use Rattle.rules.specs.Reads.{readCounters, readPending}
-use Rattle.rules.specs.History.{Entry, History, L, E, R, H, initials, inHand, handled, emitted, remote, rounds, nulls, workers, used, handedTo}
+use Rattle.rules.specs.History.{Entry, History, L, E, R, H, initials, inHand, handled, emitted, remote, rounds, nullMessages, workerCount, used, handedTo}
 
 abbrev pub Nondecreasing : List ℕ → Type 0
 Nondecreasing [] = Unit {0}
@@ -25,14 +25,14 @@ abbrev pub counts : List Entry → Reading
 counts es =
     Counted
     (record {
-      handled = min most (handled es);
-      emitted = min most (emitted es);
-      remote = min most (remote es);
-      rounds = min most (rounds es);
-      nulls = min most (nulls es);
-      workers = workers es;
+      handled = min maxCount (handled es);
+      emitted = min maxCount (emitted es);
+      remote = min maxCount (remote es);
+      rounds = min maxCount (rounds es);
+      «null_messages» = min maxCount (nullMessages es);
+      «worker_count» = workerCount es;
     })
-    (min most (used es))
+    (min maxCount (used es))
 
 pub record Demanded (a : Setup) (y : History) : Type 0 where
   -- Each process was handed its events in nondecreasing tick order.
@@ -44,7 +44,7 @@ pub record Demanded (a : Setup) (y : History) : Type 0 where
   -- rounds ≤ handled + floor(H / L) + 2 × R
   pub few-rounds : rounds (y .entries) ≤ handled (y .entries) + H (y .entries) / L a + 2 * R (y .entries)
   -- null messages ≤ E × (floor(H / L) + R)
-  pub few-nulls : nulls (y .entries) ≤ E a * (H (y .entries) / L a + R (y .entries))
+  pub few-null-messages : nullMessages (y .entries) ≤ E a * (H (y .entries) / L a + R (y .entries))
   -- "The counters read after the list equal these counts, or 2^64 - 1 where one is larger."
   pub counters : readCounters (y .now) (y .counters) .answer ≡ Read (counts (y .entries))
   -- No call of the list is refused with 11.

@@ -5,7 +5,7 @@ use Prim.Native.Nat.{ℕ, _+_, _^_, _/_, _%_, max}
 use lib.Dec.{leb, ltb, eqb}
 use lib.ListN.{length, getD}
 use Rattle.rules.specs.Base.{if_then_else_, upTo, any, anyOf, count, nonEmpty}
-use Rattle.rules.specs.State.{Message, Event, Stored, unset, stored, State, Counters, withHandled, closed, poison, raise, top, most, most-processes, most-pending, most-payload}
+use Rattle.rules.specs.State.{Message, Event, Stored, unset, stored, State, Counters, withHandled, closed, poison, saturatingAdd, maxTick, maxCount, maxProcesses, maxPending, maxPayload}
 use Rattle.rules.specs.Answers
 use Rattle.rules.specs.Answers.{Refusal, Committed, Refused}
 use Rattle.rules.specs.Rows.{Row, _⇒_, unless, Out, out, refuse}
@@ -23,10 +23,10 @@ unfoldable pub failed : ℕ → ℕ → Bool
 failed mask p = eqb (mask / 2 ^ p % 2) 1
 
 -- "Malformed: emitters fall, an emitter or failed process isn't in the batch, a failed one has emissions, a payload is above 16."
-unfoldable pub fall : List Emission → Bool
-fall [] = false
-fall (x ∷ []) = false
-fall (x ∷ y ∷ ys) = ltb (y .emitter) (x .emitter) || fall (y ∷ ys)
+unfoldable pub emittersFall : List Emission → Bool
+emittersFall [] = false
+emittersFall (x ∷ []) = false
+emittersFall (x ∷ y ∷ ys) = ltb (y .emitter) (x .emitter) || emittersFall (y ∷ ys)
 
 unfoldable pub inBatch : List Event → ℕ → Bool
 inBatch batch p = any (λ e. eqb (e .destination) p) batch
@@ -34,11 +34,11 @@ inBatch batch p = any (λ e. eqb (e .destination) p) batch
 unfoldable pub malformed : List Event → ℕ → List Emission → Bool
 malformed batch mask xs =
     anyOf
-    (fall xs
+    (emittersFall xs
     ∷ any (λ x. not (inBatch batch (x .emitter))) xs
-    ∷ any (λ p. failed mask p && not (inBatch batch p)) (upTo most-processes)
+    ∷ any (λ p. failed mask p && not (inBatch batch p)) (upTo maxProcesses)
     ∷ any (λ x. failed mask (x .emitter)) xs
-    ∷ any (λ x. ltb most-payload (length (x .message .payload))) xs
+    ∷ any (λ x. ltb maxPayload (length (x .message .payload))) xs
     ∷ [])
 
 -- "The minimum tick is the event's tick for an emission to oneself, else that tick + L."
@@ -51,7 +51,7 @@ messageRows n routes L p t m =
     (not (eqb (m .source) p) ⇒ Answers.OutboundSourceMismatch p (m .source))
     ∷ (leb n (m .destination) ⇒ Answers.UnknownOutboundDestination (m .destination))
     ∷ (not (routes p (m .destination)) ⇒ Answers.OutboundRouteMissing p (m .destination))
-    ∷ (ltb top (minimum L p t m) ⇒ Answers.LookaheadOverflow p t L)
+    ∷ (ltb maxTick (minimum L p t m) ⇒ Answers.LookaheadOverflow p t L)
     ∷ (ltb (m .tick) (minimum L p t m) ⇒ Answers.OutboundLookaheadViolation p t (m .tick) (minimum L p t m))
     ∷ []
 
@@ -75,12 +75,12 @@ processRows s mask xs (e ∷ es) = (failed mask (e .destination) ⇒ Answers.Han
 abbrev pub poisonRows : State → ℕ → List Emission → List Row
 poisonRows s mask xs =
     processRows s mask xs (s .batch)
-    ++ ((ltb most (s .next + length xs) ⇒ Answers.EventSequenceOverflow)
-    ∷ (ltb most-pending (length (s .pending) + length xs) ⇒ Answers.QueueFull)
+    ++ ((ltb maxCount (s .next + length xs) ⇒ Answers.EventSequenceOverflow)
+    ∷ (ltb maxPending (length (s .pending) + length xs) ⇒ Answers.QueueFull)
     ∷ [])
 
-abbrev pub backRows : State → ℕ → List Emission → List Row
-backRows s mask xs =
+abbrev pub handBackRows : State → ℕ → List Emission → List Row
+handBackRows s mask xs =
     (foreign s ⇒ Answers.ForeignState)
     ∷ (s .poisoned ⇒ Answers.Poisoned)
     ∷ (not (nonEmpty (s .batch)) ⇒ Answers.NoBatch)
@@ -93,14 +93,14 @@ isRemote x = not (eqb (x .message .destination) (x .message .source))
 
 -- "Handled, emitted and remote (..) grow by their counts, .. rounds by 1; the worker count is the largest batch so far."
 abbrev pub countRound : Counters → List Event → List Emission → Counters
-countRound c batch xs = record { handled = raise (c .handled) (length batch); emitted = raise (c .emitted) (length xs); remote = raise (c .remote) (count isRemote xs); rounds = raise (c .rounds) 1; nulls = c .nulls; workers = max (c .workers) (length batch) }
+countRound c batch xs = record { handled = saturatingAdd (c .handled) (length batch); emitted = saturatingAdd (c .emitted) (length xs); remote = saturatingAdd (c .remote) (count isRemote xs); rounds = saturatingAdd (c .rounds) 1; «null_messages» = c .«null_messages»; «worker_count» = max (c .«worker_count») (length batch) }
 
 abbrev pub messages : List Emission → List Message
 messages xs = map (λ (x : Emission). x .message) xs
 
 -- "After all checks, everything is queued in list order", used grows "by the events handled".
 abbrev pub handled : State → List Emission → State
-handled s xs = withHandled s (queue (s .pending) (s .next) (messages xs)) (s .next + length xs) (raise (s .used) (length (s .batch)))
+handled s xs = withHandled s (queue (s .pending) (s .next) (messages xs)) (s .next + length xs) (saturatingAdd (s .used) (length (s .batch)))
 
 -- "Then 24 if used >= budget and an event is eligible, without refresh; else refresh and answer Committed."
 unfoldable pub commit : State → Counters → ℕ → ℕ → List Emission → Out
@@ -116,8 +116,8 @@ commitAt s c unset xs = refuse s c Answers.NoBatch
 commitAt s c (stored horizon budget) xs = commit s c horizon budget xs
 
 -- What the last column calls "poisoned".
-abbrev pub lose : State → Counters → Refusal → Out
-lose s c r = out (Refused r) (poison s) c
+abbrev pub poisonWith : State → Counters → Refusal → Out
+poisonWith s c r = out (Refused r) (poison s) c
 
 unfoldable pub handBack : State → Counters → ℕ → List Emission → Out
-handBack s c mask xs = unless (backRows s mask xs) (refuse s c) (unless (poisonRows s mask xs) (lose s c) (commitAt s c (s .stored) xs))
+handBack s c mask xs = unless (handBackRows s mask xs) (refuse s c) (unless (poisonRows s mask xs) (poisonWith s c) (commitAt s c (s .stored) xs))

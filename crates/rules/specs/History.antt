@@ -28,12 +28,12 @@ pub record History : Type 0 where
 abbrev pub entry : State → Call → Out → Entry
 entry s k o = record { call = k; answer = o .answer; raises = countRaised (s .edges) (o .after .edges) }
 
-abbrev pub onward : History → Call → Out → History
-onward y k o = record { entries = entry (y .now) k o ∷ y .entries; now = o .after; counters = o .counters }
+abbrev pub appendCall : History → Call → Out → History
+appendCall y k o = record { entries = entry (y .now) k o ∷ y .entries; now = o .after; counters = o .counters }
 
 -- "The rules start from what build makes", of the setup a.
-abbrev pub fresh : Setup → History
-fresh a = record { entries = []; now = built a; counters = zeros }
+abbrev pub emptyHistory : Setup → History
+emptyHistory a = record { entries = []; now = built a; counters = zeros }
 
 -- "In it L and E are the lookahead and the edges given to build".
 abbrev pub L : Setup → ℕ
@@ -42,9 +42,9 @@ L a = a .lookahead
 abbrev pub E : Setup → ℕ
 E a = length (a .destinations)
 
-unfoldable pub tell : History → List Call → History
-tell y [] = y
-tell y (k ∷ ks) = tell (onward y k (rule (y .now) (y .counters) k)) ks
+unfoldable pub runCalls : History → List Call → History
+runCalls y [] = y
+runCalls y (k ∷ ks) = runCalls (appendCall y k (rule (y .now) (y .counters) k)) ks
 
 -- What a call is and was given.
 unfoldable pub isInitial : Call → Bool
@@ -175,14 +175,14 @@ unfoldable pub rounds : List Entry → ℕ
 rounds es = count commits es + count (λ e. isAdvanced (e .answer)) es
 
 -- "null messages the edge bounds raised for these Advanced answers"
-unfoldable pub nulls : List Entry → ℕ
-nulls [] = 0
-nulls (e ∷ es) = (if isAdvanced (e .answer) then e .raises else 0) + nulls es
+unfoldable pub nullMessages : List Entry → ℕ
+nullMessages [] = 0
+nullMessages (e ∷ es) = (if isAdvanced (e .answer) then e .raises else 0) + nullMessages es
 
 -- "the worker count is the largest batch so far": of those handled.
-unfoldable pub workers : List Entry → ℕ
-workers [] = 0
-workers (e ∷ es) = if commits e then max (workers es) (length (inHand es)) else workers es
+unfoldable pub workerCount : List Entry → ℕ
+workerCount [] = 0
+workerCount (e ∷ es) = if commits e then max (workerCount es) (length (inHand es)) else workerCount es
 
 -- The events handled since the last begin that was not refused: "events handed back in this run".
 unfoldable pub used : List Entry → ℕ

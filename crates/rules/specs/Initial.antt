@@ -4,7 +4,7 @@ use mathlib.Core.List.{List, [], _∷_}
 use Prim.Native.Nat.{suc, _+_}
 use lib.Dec.{leb, ltb}
 use lib.ListN.{length}
-use Rattle.rules.specs.State.{State, Counters, Message, numbered, withPending, most, most-pending, most-payload}
+use Rattle.rules.specs.State.{State, Counters, Message, numbered, withPending, maxCount, maxPending, maxPayload}
 use Rattle.rules.specs.Answers
 use Rattle.rules.specs.Answers.{Accepted}
 use Rattle.rules.specs.Rows.{Row, _⇒_, unless, Out, out, refuse}
@@ -20,9 +20,9 @@ initialRows s m =
     ∷ (leb (s .n) (m .source) ⇒ Answers.UnknownInitialSource (m .source))
     ∷ (leb (s .n) (m .destination) ⇒ Answers.UnknownInitialDestination (m .destination))
     ∷ (not (route (s .edges) (m .source) (m .destination)) ⇒ Answers.InitialRouteMissing (m .source) (m .destination))
-    ∷ (ltb most-payload (length (m .payload)) ⇒ Answers.PayloadTooLong (length (m .payload)))
-    ∷ (leb most-pending (length (s .pending)) ⇒ Answers.QueueFull)
-    ∷ (ltb most (s .next + 1) ⇒ Answers.EventSequenceOverflow)
+    ∷ (ltb maxPayload (length (m .payload)) ⇒ Answers.PayloadTooLong (length (m .payload)))
+    ∷ (leb maxPending (length (s .pending)) ⇒ Answers.QueueFull)
+    ∷ (ltb maxCount (s .next + 1) ⇒ Answers.EventSequenceOverflow)
     ∷ []
 
 -- "accepted, it gets the next sequence number from 0".

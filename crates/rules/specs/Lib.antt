@@ -21,7 +21,7 @@ pub mod Demand
 pub mod Opened
 -- Computed cases: document 01's rehearsals, states written out, and an input for each refusal.
 pub mod Rehearsals
-pub mod Told
+pub mod Outcomes
 pub mod Samples
 pub mod RefusalsBuild
 pub mod RefusalsForeign
@@ -29,5 +29,5 @@ pub mod RefusalsCalls
 pub mod RefusalsBack
 pub mod RefusalsPlan
 pub mod Refusals
-pub mod Beside
+pub mod MoreRehearsals
 pub mod Counting

@@ -1,7 +1,7 @@
 -- The four reads: document 01, "Reads and plan". They check 11 and nothing else, and leave state and counters as given.
 use mathlib.Core.List.{[], _∷_, map}
 use lib.ListN.{length}
-use Rattle.rules.specs.State.{Event, State, Counters, top}
+use Rattle.rules.specs.State.{Event, State, Counters, maxTick}
 use Rattle.rules.specs.Answers
 use Rattle.rules.specs.Answers.{Reading, Gvt, Counted, Pending, Earliest, Read}
 use Rattle.rules.specs.Rows.{_⇒_, unless, Out, out, refuse}
@@ -24,4 +24,4 @@ readPending s c = read s c (Pending (length (s .pending)))
 
 -- "earliest pending tick (added; the largest tick if none is pending)"
 unfoldable pub readEarliest : State → Counters → Out
-readEarliest s c = read s c (Earliest (least top (map (λ (e : Event). e .tick) (s .pending))))
+readEarliest s c = read s c (Earliest (least maxTick (map (λ (e : Event). e .tick) (s .pending))))

@@ -1,7 +1,7 @@
 -- Refresh: document 01, "Step and hand back", the paragraph that begins with this word.
 use mathlib.Core.List.{List, [], _∷_, map}
 use Prim.Native.Nat.{ℕ, suc, _-_, min, max}
-use Rattle.rules.specs.State.{Event, Edge, State, withFronts}
+use Rattle.rules.specs.State.{Event, Edge, State, withBounds}
 use Rattle.rules.specs.Pending.{firstTick}
 use Rattle.rules.specs.Frontiers.{safe}
 
@@ -27,4 +27,4 @@ gvtOf g horizon q hs = max g (least (least horizon (map (λ (e : Event). e .tick
 unfoldable pub refreshed : State → ℕ → List Edge → List Edge → List ℕ → State
 refreshed s horizon old es hs =
     let hs′ = raised (refreshTo old (suc horizon) (s .pending)) 0 hs in
-    withFronts s es hs′ (gvtOf (s .gvt) horizon (s .pending) hs′)
+    withBounds s es hs′ (gvtOf (s .gvt) horizon (s .pending) hs′)

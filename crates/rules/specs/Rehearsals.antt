@@ -10,7 +10,7 @@ use Rattle.rules.specs.Answers.{Answer, Accepted, Batch, Advanced, Finis
 use Rattle.rules.specs.Rows.{Out}
 use Rattle.rules.specs.Build.{Setup, build}
 use Rattle.rules.specs.HandBack.{Emission}
-use Rattle.rules.specs.Calls.{Call, AddInitial, Begin, Step, HandBack, carryOut}
+use Rattle.rules.specs.Calls.{Call, AddInitial, Begin, Step, HandBack, execute}
 
 -- "L = 3, edges 0→1 and 1→0"
 unfoldable pub pair : Setup
@@ -23,7 +23,7 @@ one-way = record { n = 2; lookahead = 3; ids = 0 ∷ 1 ∷ []; sources = 0 ∷ 1
 -- What build made, if it made something, is carried on with.
 unfoldable pub carryOn : Maybe State → Counters → List Call → List Out
 carryOn none c ks = []
-carryOn (some s) c ks = carryOut s c ks
+carryOn (some s) c ks = execute s c ks
 
 -- What the calls give, from what build makes; nothing where it refuses.
 unfoldable pub outs : Setup → List Call → List Out
@@ -39,11 +39,11 @@ numbers a ks = map number (answers a ks)
 unfoldable pub returned : Setup → List Call → List (List ℕ)
 returned a ks = map values (answers a ks)
 
-unfoldable pub rounds : Setup → List Call → List ℕ
-rounds a ks = map (λ (o : Out). o .counters .rounds) (outs a ks)
+unfoldable pub roundsCounted : Setup → List Call → List ℕ
+roundsCounted a ks = map (λ (o : Out). o .counters .rounds) (outs a ks)
 
-unfoldable pub nulls : Setup → List Call → List ℕ
-nulls a ks = map (λ (o : Out). o .counters .nulls) (outs a ks)
+unfoldable pub nullMessagesCounted : Setup → List Call → List ℕ
+nullMessagesCounted a ks = map (λ (o : Out). o .counters .«null_messages») (outs a ks)
 
 unfoldable pub gvts : Setup → List Call → List ℕ
 gvts a ks = map (λ (o : Out). o .after .gvt) (outs a ks)
@@ -81,11 +81,11 @@ abbrev pub handing-back : Emission → List Call
 handing-back x = at-two ++ (HandBack 0 (x ∷ []) ∷ [])
 
 -- C4's and C5's.
-abbrev pub at-two-unpaid : List Call
-at-two-unpaid = initial-at 2 0 ++ (Step ∷ [])
+abbrev pub at-two-no-budget : List Call
+at-two-no-budget = initial-at 2 0 ++ (Step ∷ [])
 
-abbrev pub at-three-unpaid : List Call
-at-three-unpaid = initial-at 3 0 ++ (Step ∷ Step ∷ [])
+abbrev pub at-three-no-budget : List Call
+at-three-no-budget = initial-at 3 0 ++ (Step ∷ Step ∷ [])
 
 -- C8's: the largest tick for a horizon, an initial event, then the horizon one below it.
 abbrev pub to-the-top : List Call
@@ -102,25 +102,25 @@ two-sources = AddInitial (message 1 1 2) ∷ AddInitial (message 0 1 2) ∷ Begi
 pub record Rehearsed : Type 0 where
   -- "No events, horizon 9: four Advanced, then Finished; rounds 4, null messages 6, GVT 0, 2, 5, 8, 9."
   pub c1 : answers pair no-events ≡ (Accepted ∷ Advanced 2 ∷ Advanced 5 ∷ Advanced 8 ∷ Advanced 9 ∷ Finished 9 ∷ [])
-  pub c1-rounds : rounds pair no-events ≡ (0 ∷ 1 ∷ 2 ∷ 3 ∷ 4 ∷ 4 ∷ [])
-  pub c1-nulls : nulls pair no-events ≡ (0 ∷ 2 ∷ 4 ∷ 6 ∷ 6 ∷ 6 ∷ [])
+  pub c1-rounds : roundsCounted pair no-events ≡ (0 ∷ 1 ∷ 2 ∷ 3 ∷ 4 ∷ 4 ∷ [])
+  pub c1-null-messages : nullMessagesCounted pair no-events ≡ (0 ∷ 2 ∷ 4 ∷ 6 ∷ 6 ∷ 6 ∷ [])
   pub c1-gvt : gvts pair no-events ≡ (0 ∷ 2 ∷ 5 ∷ 8 ∷ 9 ∷ 9 ∷ [])
   -- "Initial 0→1 at 3, horizon 9: Advanced first, then the batch."
   pub c2 : answers pair at-three ≡ (Accepted ∷ Accepted ∷ Advanced 2 ∷ Batch (event 0 1 3 0 ∷ []) 2 ∷ [])
   -- "At 2: batch first."
   pub c3 : answers pair at-two ≡ (Accepted ∷ Accepted ∷ Batch (event 0 1 2 0 ∷ []) 0 ∷ [])
   -- "C3 with budget 0: 24 at the first step, GVT 0."
-  pub c4 : answers pair at-two-unpaid ≡ (Accepted ∷ Accepted ∷ Refused (Answers.EventBudgetExceeded 0) ∷ [])
-  pub c4-number : numbers pair at-two-unpaid ≡ (0 ∷ 0 ∷ 24 ∷ [])
-  pub c4-rounds : rounds pair at-two-unpaid ≡ (0 ∷ 0 ∷ 0 ∷ [])
-  pub c4-nulls : nulls pair at-two-unpaid ≡ (0 ∷ 0 ∷ 0 ∷ [])
-  pub c4-gvt : gvts pair at-two-unpaid ≡ (0 ∷ 0 ∷ 0 ∷ [])
+  pub c4 : answers pair at-two-no-budget ≡ (Accepted ∷ Accepted ∷ Refused (Answers.EventBudgetExceeded 0) ∷ [])
+  pub c4-number : numbers pair at-two-no-budget ≡ (0 ∷ 0 ∷ 24 ∷ [])
+  pub c4-rounds : roundsCounted pair at-two-no-budget ≡ (0 ∷ 0 ∷ 0 ∷ [])
+  pub c4-null-messages : nullMessagesCounted pair at-two-no-budget ≡ (0 ∷ 0 ∷ 0 ∷ [])
+  pub c4-gvt : gvts pair at-two-no-budget ≡ (0 ∷ 0 ∷ 0 ∷ [])
   -- "C2 with budget 0: Advanced, GVT 2, then 24."
-  pub c5 : answers pair at-three-unpaid ≡ (Accepted ∷ Accepted ∷ Advanced 2 ∷ Refused (Answers.EventBudgetExceeded 0) ∷ [])
-  pub c5-number : numbers pair at-three-unpaid ≡ (0 ∷ 0 ∷ 0 ∷ 24 ∷ [])
-  pub c5-rounds : rounds pair at-three-unpaid ≡ (0 ∷ 0 ∷ 1 ∷ 1 ∷ [])
-  pub c5-nulls : nulls pair at-three-unpaid ≡ (0 ∷ 0 ∷ 2 ∷ 2 ∷ [])
-  pub c5-gvt : gvts pair at-three-unpaid ≡ (0 ∷ 0 ∷ 2 ∷ 2 ∷ [])
+  pub c5 : answers pair at-three-no-budget ≡ (Accepted ∷ Accepted ∷ Advanced 2 ∷ Refused (Answers.EventBudgetExceeded 0) ∷ [])
+  pub c5-number : numbers pair at-three-no-budget ≡ (0 ∷ 0 ∷ 0 ∷ 24 ∷ [])
+  pub c5-rounds : roundsCounted pair at-three-no-budget ≡ (0 ∷ 0 ∷ 1 ∷ 1 ∷ [])
+  pub c5-null-messages : nullMessagesCounted pair at-three-no-budget ≡ (0 ∷ 0 ∷ 2 ∷ 2 ∷ [])
+  pub c5-gvt : gvts pair at-three-no-budget ≡ (0 ∷ 0 ∷ 2 ∷ 2 ∷ [])
   -- "Event at 2 emits to itself at 2: Committed; at 1: 32, minimum 2."
   pub c6-committed : answers pair (handing-back (emits 1 1 2)) ≡ (Accepted ∷ Accepted ∷ Batch (event 0 1 2 0 ∷ []) 0 ∷ Committed 1 ∷ [])
   pub c6-refused : answers pair (handing-back (emits 1 1 1)) ≡ (Accepted ∷ Accepted ∷ Batch (event 0 1 2 0 ∷ []) 0 ∷ Refused (Answers.OutboundLookaheadViolation 1 2 1 2) ∷ [])

@@ -7,7 +7,7 @@ use Rattle.rules.specs.State.{Event, Edge, unset, stored, State, zeros, 
 use Rattle.rules.specs.Build.{built}
 use Rattle.rules.specs.Calls.{AddInitial, Begin, Step}
 use Rattle.rules.specs.Rehearsals.{pair, one-way, budget, message, event, emits, initial-at, no-events, at-two, handing-back}
-use Rattle.rules.specs.Told.{reach}
+use Rattle.rules.specs.Outcomes.{stateAfter}
 
 -- An edge with its bound at first.
 abbrev pub edge : ℕ → ℕ → Edge
@@ -42,15 +42,15 @@ abbrev pub in-run : List Edge → List Event → ℕ → ℕ → ℕ → List Ev
 in-run es q k h u b = record { n = 2; lookahead = 3; edges = es; pending = q; next = k; horizons = zero-zero; gvt = 0; stored = stored h u; used = 0; batch = b; initial = false; running = true; poisoned = false }
 
 -- C4 before its step: an event at 2, budget 0.
-abbrev pub unpaid : State
-unpaid = in-run edges (event 0 1 2 0 ∷ []) 1 9 0 []
+abbrev pub no-budget : State
+no-budget = in-run edges (event 0 1 2 0 ∷ []) 1 9 0 []
 
 -- C3's batch in hand, process 1's event at 2; and that batch lost, so poisoned.
 abbrev pub in-hand : State
 in-hand = in-run edges [] 1 9 budget (event 0 1 2 0 ∷ [])
 
-abbrev pub lost : State
-lost = record { n = 2; lookahead = 3; edges = edges; pending = []; next = 1; horizons = zero-zero; gvt = 0; stored = stored 9 budget; used = 0; batch = []; initial = false; running = true; poisoned = true }
+abbrev pub poisoned-state : State
+poisoned-state = record { n = 2; lookahead = 3; edges = edges; pending = []; next = 1; horizons = zero-zero; gvt = 0; stored = stored 9 budget; used = 0; batch = []; initial = false; running = true; poisoned = true }
 
 -- That batch with budget 1, and a second event at 2 still pending.
 abbrev pub last-in-hand : State
@@ -69,7 +69,7 @@ unfoldable pub manyEvents : ℕ → List Event
 manyEvents zero = []
 manyEvents (suc k) = event 0 1 (512 - k) k ∷ manyEvents k
 
--- What 512 adds lead to, each at a tick below those before it (crate `limits`).
+-- What 512 adds lead to, each at a tick below those before it (crate `rules_limits`).
 abbrev pub full : State
 full = withPending fresh (manyEvents 512) 512
 
@@ -80,12 +80,12 @@ full-in-hand = in-run edges (manyEvents 511) 512 9 budget (event 0 1 1 511 ∷ [
 pub record Sampled : Type 0 where
   pub fresh-built : built pair ≡ fresh
   pub one-way-built : built one-way ≡ fresh-one-way
-  pub begun-reached : reach fresh zeros (Begin 9 budget ∷ []) ≡ begun
-  pub finished-reached : reach fresh zeros no-events ≡ finished
-  pub unpaid-reached : reach fresh zeros (initial-at 2 0) ≡ unpaid
-  pub in-hand-reached : reach fresh zeros at-two ≡ in-hand
-  pub lost-reached : reach fresh zeros (handing-back (emits 1 1 1)) ≡ lost
-  pub last-reached : reach fresh zeros (AddInitial (message 0 1 2) ∷ AddInitial (message 0 1 2) ∷ Begin 9 1 ∷ Step ∷ []) ≡ last-in-hand
-  pub two-reached : reach fresh zeros (AddInitial (message 0 0 1) ∷ AddInitial (message 0 1 2) ∷ Begin 9 budget ∷ Step ∷ []) ≡ two-in-hand
-  pub one-reached : reach fresh-one-way zeros (AddInitial (message 1 1 2) ∷ Begin (2 ^ 128 - 2) budget ∷ Step ∷ []) ≡ one-in-hand 1 2
-  pub top-reached : reach fresh-one-way zeros (AddInitial (message 0 0 (2 ^ 128 - 2)) ∷ Begin (2 ^ 128 - 2) budget ∷ Step ∷ []) ≡ one-in-hand 0 (2 ^ 128 - 2)
+  pub begun-reached : stateAfter fresh zeros (Begin 9 budget ∷ []) ≡ begun
+  pub finished-reached : stateAfter fresh zeros no-events ≡ finished
+  pub no-budget-reached : stateAfter fresh zeros (initial-at 2 0) ≡ no-budget
+  pub in-hand-reached : stateAfter fresh zeros at-two ≡ in-hand
+  pub poisoned-reached : stateAfter fresh zeros (handing-back (emits 1 1 1)) ≡ poisoned-state
+  pub last-reached : stateAfter fresh zeros (AddInitial (message 0 1 2) ∷ AddInitial (message 0 1 2) ∷ Begin 9 1 ∷ Step ∷ []) ≡ last-in-hand
+  pub two-reached : stateAfter fresh zeros (AddInitial (message 0 0 1) ∷ AddInitial (message 0 1 2) ∷ Begin 9 budget ∷ Step ∷ []) ≡ two-in-hand
+  pub one-reached : stateAfter fresh-one-way zeros (AddInitial (message 1 1 2) ∷ Begin (2 ^ 128 - 2) budget ∷ Step ∷ []) ≡ one-in-hand 1 2
+  pub top-reached : stateAfter fresh-one-way zeros (AddInitial (message 0 0 (2 ^ 128 - 2)) ∷ Begin (2 ^ 128 - 2) budget ∷ Step ∷ []) ≡ one-in-hand 0 (2 ^ 128 - 2)

@@ -4,32 +4,32 @@ use mathlib.Core.List.{List, []}
 use Prim.Native.Nat.{ℕ, _+_, _-_, _^_, min}
 
 -- "Limits: 1 to 64 processes, ids 0 to n-1; 512 edges; 512 pending events; payload 0 to 16 bytes; 1,024 entities."
-abbrev pub most-processes : ℕ
-most-processes = 64
+abbrev pub maxProcesses : ℕ
+maxProcesses = 64
 
-abbrev pub most-edges : ℕ
-most-edges = 512
+abbrev pub maxEdges : ℕ
+maxEdges = 512
 
-abbrev pub most-pending : ℕ
-most-pending = 512
+abbrev pub maxPending : ℕ
+maxPending = 512
 
-abbrev pub most-payload : ℕ
-most-payload = 16
+abbrev pub maxPayload : ℕ
+maxPayload = 16
 
-abbrev pub most-entities : ℕ
-most-entities = 1024
+abbrev pub maxEntities : ℕ
+maxEntities = 1024
 
 -- "Ticks and lookahead have 128 bits": the largest tick.
-abbrev pub top : ℕ
-top = 2 ^ 128 - 1
+abbrev pub maxTick : ℕ
+maxTick = 2 ^ 128 - 1
 
 -- "budget and counters 64": the largest count, and the largest next sequence number.
-abbrev pub most : ℕ
-most = 2 ^ 64 - 1
+abbrev pub maxCount : ℕ
+maxCount = 2 ^ 64 - 1
 
 -- "Counters, used among them, stop at 2^64 - 1."
-abbrev pub raise : ℕ → ℕ → ℕ
-raise c k = min most (c + k)
+abbrev pub saturatingAdd : ℕ → ℕ → ℕ
+saturatingAdd c k = min maxCount (c + k)
 
 -- "An event has source, destination, tick and payload; accepted, it gets the next sequence number".
 -- A message is an event before it is accepted.
@@ -61,11 +61,11 @@ pub record Counters : Type 0 where
   pub emitted : ℕ
   pub remote : ℕ
   pub rounds : ℕ
-  pub nulls : ℕ
-  pub workers : ℕ
+  pub «null_messages» : ℕ
+  pub «worker_count» : ℕ
 
 abbrev pub zeros : Counters
-zeros = record { handled = 0; emitted = 0; remote = 0; rounds = 0; nulls = 0; workers = 0 }
+zeros = record { handled = 0; emitted = 0; remote = 0; rounds = 0; «null_messages» = 0; «worker_count» = 0 }
 
 -- "the stored horizon and budget if any".
 pub data Stored : Type 0 where
@@ -112,8 +112,8 @@ abbrev pub withHandled : State → List Event → ℕ → ℕ → State
 withHandled s q k u = record { n = s .n; lookahead = s .lookahead; edges = s .edges; pending = q; next = k; horizons = s .horizons; gvt = s .gvt; stored = s .stored; used = u; batch = []; initial = s .initial; running = s .running; poisoned = s .poisoned }
 
 -- The edges es, the local horizons hs and GVT g.
-abbrev pub withFronts : State → List Edge → List ℕ → ℕ → State
-withFronts s es hs g = record { n = s .n; lookahead = s .lookahead; edges = es; pending = s .pending; next = s .next; horizons = hs; gvt = g; stored = s .stored; used = s .used; batch = s .batch; initial = s .initial; running = s .running; poisoned = s .poisoned }
+abbrev pub withBounds : State → List Edge → List ℕ → ℕ → State
+withBounds s es hs g = record { n = s .n; lookahead = s .lookahead; edges = es; pending = s .pending; next = s .next; horizons = hs; gvt = g; stored = s .stored; used = s .used; batch = s .batch; initial = s .initial; running = s .running; poisoned = s .poisoned }
 
 -- "'Poisoned' in the last column: the batch is lost, poisoned is set, all else stands."
 abbrev pub poison : State → State

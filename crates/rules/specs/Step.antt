@@ -4,7 +4,7 @@ use mathlib.Core.List.{List, [], _∷_}
 use Prim.Native.Nat.{ℕ, zero, suc, _+_, _-_, min, max}
 use lib.Dec.{leb, ltb}
 use Rattle.rules.specs.Base.{if_then_else_, Maybe, none, some, upTo, every, nonEmpty}
-use Rattle.rules.specs.State.{Event, Edge, Stored, unset, stored, State, Counters, withBatch, closed, poison, raise, top}
+use Rattle.rules.specs.State.{Event, Edge, Stored, unset, stored, State, Counters, withBatch, closed, poison, saturatingAdd, maxTick}
 use Rattle.rules.specs.Answers
 use Rattle.rules.specs.Answers.{Batch, Advanced, Finished, Refused}
 use Rattle.rules.specs.Rows.{Row, _⇒_, unless, Out, out, refuse}
@@ -14,33 +14,33 @@ use Rattle.rules.specs.Foreign.{foreign}
 use Rattle.rules.specs.Refresh.{raised, refreshed}
 
 -- "in id order, take the first eligible event of each process while used + taken < budget": `room` is budget - used - taken. Without room the walk ends: no later process could be taken either.
-pub record Taken : Type 0 where
+pub record BatchTaken : Type 0 where
   pub events : List Event
   pub left : List Event
 
-unfoldable pub takeOne : Maybe Event → ℕ → List Event → ℕ → (ℕ → List Event → Taken) → Taken
-takeOne none p q room rest = rest room q
-takeOne (some e) p q zero rest = record { events = []; left = q }
-takeOne (some e) p q (suc room) rest =
+unfoldable pub takeEligibleAt : Maybe Event → ℕ → List Event → ℕ → (ℕ → List Event → BatchTaken) → BatchTaken
+takeEligibleAt none p q room rest = rest room q
+takeEligibleAt (some e) p q zero rest = record { events = []; left = q }
+takeEligibleAt (some e) p q (suc room) rest =
     let r = rest room (withoutFirst q p) in
     record { events = e ∷ r .events; left = r .left }
 
-unfoldable pub take : List Edge → ℕ → List ℕ → ℕ → List Event → Taken
-take es H [] room q = record { events = []; left = q }
-take es H (p ∷ ps) room q = takeOne (eligible es H q p) p q room (take es H ps)
+unfoldable pub takeEligible : List Edge → ℕ → List ℕ → ℕ → List Event → BatchTaken
+takeEligible es H [] room q = record { events = []; left = q }
+takeEligible es H (p ∷ ps) room q = takeEligibleAt (eligible es H q p) p q room (takeEligible es H ps)
 
 -- "local horizon h(p) .. rises to min(safe(p), first pending tick or H)"
-unfoldable pub aim : State → ℕ → ℕ → ℕ
-aim s H p = min (safe (s .edges) H p) (firstTick (s .pending) p H)
+unfoldable pub inputFrontier : State → ℕ → ℕ → ℕ
+inputFrontier s H p = min (safe (s .edges) H p) (firstTick (s .pending) p H)
 
 -- "each edge bound from s rises to min(H, min(safe(s), first pending tick or H) + L), or to H on overflow."
-unfoldable pub boundTo : State → ℕ → ℕ → ℕ
-boundTo s H p = if ltb top (aim s H p + s .lookahead) then H else min H (aim s H p + s .lookahead)
+unfoldable pub newBound : State → ℕ → ℕ → ℕ
+newBound s H p = if ltb maxTick (inputFrontier s H p + s .lookahead) then H else min H (inputFrontier s H p + s .lookahead)
 
 -- "All read safe as it was before."
 unfoldable pub raisedEdges : State → ℕ → List Edge → List Edge
 raisedEdges s H [] = []
-raisedEdges s H (e ∷ es) = record { source = e .source; destination = e .destination; bound = max (e .bound) (boundTo s H (e .source)) } ∷ raisedEdges s H es
+raisedEdges s H (e ∷ es) = record { source = e .source; destination = e .destination; bound = max (e .bound) (newBound s H (e .source)) } ∷ raisedEdges s H es
 
 -- How many bounds of the second list are above those of the first. "Each bound raised is one null message."
 unfoldable pub countRaised : List Edge → List Edge → ℕ
@@ -58,13 +58,13 @@ abbrev pub newEdges : State → ℕ → List Edge
 newEdges s H = raisedEdges s H (s .edges)
 
 abbrev pub newHorizons : State → ℕ → List ℕ
-newHorizons s H = raised (aim s H) 0 (s .horizons)
+newHorizons s H = raised (inputFrontier s H) 0 (s .horizons)
 
-abbrev pub nullsOf : State → ℕ → ℕ
-nullsOf s H = countRaised (s .edges) (newEdges s H)
+abbrev pub nullMessagesOf : State → ℕ → ℕ
+nullMessagesOf s H = countRaised (s .edges) (newEdges s H)
 
-unfoldable pub rose : State → ℕ → Bool
-rose s H = ltb 0 (nullsOf s H) || anyRaised (s .horizons) (newHorizons s H)
+unfoldable pub anyAdvanced : State → ℕ → Bool
+anyAdvanced s H = ltb 0 (nullMessagesOf s H) || anyRaised (s .horizons) (newHorizons s H)
 
 -- "Then refresh GVT."
 abbrev pub advanced : State → ℕ → State
@@ -72,7 +72,7 @@ advanced s horizon = refreshed s horizon (s .edges) (newEdges s (suc horizon)) (
 
 -- "If anything rose, rounds + 1."
 abbrev pub countAdvance : Counters → ℕ → Counters
-countAdvance c k = record { handled = c .handled; emitted = c .emitted; remote = c .remote; rounds = raise (c .rounds) 1; nulls = raise (c .nulls) k; workers = c .workers }
+countAdvance c k = record { handled = c .handled; emitted = c .emitted; remote = c .remote; rounds = saturatingAdd (c .rounds) 1; «null_messages» = saturatingAdd (c .«null_messages») k; «worker_count» = c .«worker_count» }
 
 -- "every h >= H and every pending tick >= H"
 unfoldable pub complete : State → ℕ → Bool
@@ -82,12 +82,12 @@ complete s H = every (leb H) (s .horizons) && every (λ e. leb H (e .tick)) (s .
 unfoldable pub advance : State → Counters → ℕ → Out
 advance s c horizon =
     let t = advanced s horizon in
-    if rose s (suc horizon) then out (Advanced (t .gvt)) t (countAdvance c (nullsOf s (suc horizon)))
+    if anyAdvanced s (suc horizon) then out (Advanced (t .gvt)) t (countAdvance c (nullMessagesOf s (suc horizon)))
     else if complete t (suc horizon) then out (Finished (t .gvt)) (closed t) c
     else out (Refused Answers.Poisoned) (poison t) c
 
-abbrev pub takenAt : State → ℕ → ℕ → Taken
-takenAt s horizon budget = take (s .edges) (suc horizon) (upTo (s .n)) (budget - s .used) (s .pending)
+abbrev pub takenAt : State → ℕ → ℕ → BatchTaken
+takenAt s horizon budget = takeEligible (s .edges) (suc horizon) (upTo (s .n)) (budget - s .used) (s .pending)
 
 -- "used >= budget and an event is eligible"
 abbrev pub spent : State → ℕ → ℕ → Bool

@@ -4,8 +4,8 @@ use mathlib.Core.Bool.{true}
 use Rattle.rules.specs.Base.{any, anyOf}
 use Rattle.rules.specs.Foreign.{foreign}
 use Rattle.state.specs.View.{viewOf}
-use Rattle.building.specs.LaidOut.{nothing}
+use Rattle.build.specs.Initialized.{emptyRuntime}
 
-pub nothing-foreign : foreign (viewOf nothing) ≡ true
+pub empty-foreign : foreign (viewOf emptyRuntime) ≡ true
 unfolding foreign anyOf any
-nothing-foreign = refl
+empty-foreign = refl

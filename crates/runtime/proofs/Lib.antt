@@ -1,3 +1,3 @@
 pub mod Making
 pub mod Empty
-pub mod Carrying
+pub mod Executing

@@ -7,17 +7,17 @@ use Rattle.rules.specs.Build.{Setup, setup, built, build}
 use Rattle.state.specs.declared.Runtime.{Runtime}
 use Rattle.state.specs.declared.Counters.{Counters}
 use Rattle.state.specs.View.{viewOf, countersOf}
-use Rattle.building.specs.Answered.{answerOf}
-use Rattle.building.specs.LaidOut.{nothing}
-use Rattle.runtime.specs.declared.Built.{Built}
+use Rattle.build.specs.Checks.{answerOf}
+use Rattle.build.specs.Initialized.{emptyRuntime}
+use Rattle.runtime.specs.declared.BuildResult.{BuildResult}
 
 -- "Once built, ..", of every setup with these rows that build accepts.
 pub record Makes (n L : ℕ) (sources counts destinations : List ℕ) (r : Runtime) : Type 0 where
   pub of-ids : (ids : List ℕ) → viewOf r ≡ built (setup n L ids sources counts destinations)
 
-pub record Builds (a : Setup) (c : Counters) (r : Built) : Type 0 where
+pub record Builds (a : Setup) (c : Counters) (r : BuildResult) : Type 0 where
   pub answered : answerOf (r .answer) ≡ build a (countersOf c) .answer
   pub made : build a (countersOf c) .answer ≡ Accepted → viewOf (r .state) ≡ built a
   pub counted : countersOf (r .counters) ≡ build a (countersOf c) .counters
   -- "nothing made"; "a refused build leaves the lent counters untouched".
-  pub refused : (why : Refusal) → build a (countersOf c) .answer ≡ Refused why → (r .state ≡ nothing) × (r .counters ≡ c)
+  pub refused : (why : Refusal) → build a (countersOf c) .answer ≡ Refused why → (r .state ≡ emptyRuntime) × (r .counters ≡ c)

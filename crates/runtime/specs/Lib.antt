@@ -1,2 +1,2 @@
 pub mod Builds
-pub mod Carries
+pub mod Executes

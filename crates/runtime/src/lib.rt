@@ -1,6 +1,6 @@
 // The runtime's calls. States and answers go in and come back by value, and no call asks anything of
 // its caller.
-use building::BuildAnswer;
+use build::BuildAnswer;
 use foreign::is_foreign;
 use state::Answer;
 use state::Counters;
@@ -12,47 +12,47 @@ ghost use mathlib.Core.Path.{_≡_};
 ghost use mathlib.Core.Bool.{true};
 ghost use Prim.Native.Nat.{_/_};
 ghost use lib.ListN.{length};
-ghost use Rattle.types.specs.Value.{value, span};
+ghost use Rattle.types.specs.Value.{ticksOf, durationOf};
 ghost use Rattle.words.specs.Words.{zeroes};
 ghost use Rattle.rules.specs.Foreign.{foreign};
 ghost use Rattle.rules.specs.Build.{setup};
 ghost use Rattle.rules.specs.Calls.{Call, AddInitial, Begin, Step, HandBack};
-ghost use Rattle.replies.specs.Emissions.{emissionsOf};
+ghost use Rattle.reply_words.specs.Emissions.{emissionsOf};
 ghost use Rattle.state.specs.View.{viewOf, messageOf};
-ghost use Rattle.building.specs.LaidOut.{nothing};
-ghost use Rattle.wiring.specs.Wired.{Writable};
+ghost use Rattle.build.specs.Initialized.{emptyRuntime};
+ghost use Rattle.build_edges.specs.Written.{Writable};
 ghost use Rattle.runtime.specs.Builds.{Makes, Builds};
-ghost use Rattle.runtime.specs.Carries.{Carries};
+ghost use Rattle.runtime.specs.Executes.{Executes};
 
 // What build gives: its answer, the runtime made and the counters left.
-pub struct Built {
+pub struct BuildResult {
     pub answer: BuildAnswer,
     pub state: Runtime,
     pub counters: Counters,
 }
 
 // What a call on a runtime gives: its answer, with the runtime and the counters left.
-pub struct Called {
+pub struct CallResult {
     pub answer: Answer,
     pub state: Runtime,
     pub counters: Counters,
 }
 
 // "nothing made": all zeros, a state without processes, which every later call refuses with 11.
-fn nothing() -> Runtime
-    ensures { λ r. ⌜ r ≡ nothing ⌝ }
+fn empty_runtime() -> Runtime
+    ensures { λ r. ⌜ r ≡ emptyRuntime ⌝ }
 {
     Runtime {
         edges: [0; 2048],
         pending: [0; 4096],
         horizons: [0; 128],
         batch: [0; 512],
-        head: building::no_head(),
+        head: build::empty_header(),
     }
 }
 
 // The runtime of an accepted build.
-fn make<'a>(
+fn make_runtime<'a>(
     n: u64,
     lookahead: SimDuration,
     sources: &'a [u32],
@@ -60,10 +60,10 @@ fn make<'a>(
     destinations: &'a [u32],
 ) -> Runtime
     requires { ⌜ Writable (now sources) (now counts) (now destinations) (zeroes 2048) ⌝ }
-    ensures { λ r. ⌜ Makes n (span lookahead) (now (sources .entry)) (now (counts .entry)) (now (destinations .entry)) r ⌝ }
+    ensures { λ r. ⌜ Makes n (durationOf lookahead) (now (sources .entry)) (now (counts .entry)) (now (destinations .entry)) r ⌝ }
 {
     let mut edges = [0u64; 2048];
-    let head = building::lay_out(n, lookahead, sources, counts, destinations, &mut edges);
+    let head = build::initialize(n, lookahead, sources, counts, destinations, &mut edges);
     Runtime {
         edges: edges,
         pending: [0; 4096],
@@ -83,37 +83,37 @@ pub fn build<'a>(
     counts: &'a [u64],
     destinations: &'a [u32],
     counters: Counters,
-) -> Built
-    ensures { λ r. ⌜ Builds (setup n (span lookahead) (now (ids .entry)) (now (sources .entry)) (now (counts .entry)) (now (destinations .entry))) counters r ⌝ }
+) -> BuildResult
+    ensures { λ r. ⌜ Builds (setup n (durationOf lookahead) (now (ids .entry)) (now (sources .entry)) (now (counts .entry)) (now (destinations .entry))) counters r ⌝ }
 {
-    let answer = building::judge(n, lookahead, ids, sources, counts, destinations);
+    let answer = build::check(n, lookahead, ids, sources, counts, destinations);
     if let BuildAnswer::Accepted = answer {
-        return Built {
+        return BuildResult {
             answer: answer,
-            state: make(n, lookahead, sources, counts, destinations),
+            state: make_runtime(n, lookahead, sources, counts, destinations),
             counters: Counters {
-                handled: 0,
-                emitted: 0,
-                remote: 0,
+                processed_events: 0,
+                emitted_events: 0,
+                remote_events: 0,
                 rounds: 0,
-                nulls: 0,
-                workers: 0,
+                null_messages: 0,
+                worker_count: 0,
             },
         };
     }
-    Built {
+    BuildResult {
         answer: answer,
-        state: nothing(),
+        state: empty_runtime(),
         counters: counters,
     }
 }
 
 // 11 refuses any call: state and counters come back as given.
-fn foreign_state(state: Runtime, counters: Counters) -> Called
+fn refuse_foreign(state: Runtime, counters: Counters) -> CallResult
     requires { ⌜ foreign (viewOf state) ≡ true ⌝ }
-    ensures { λ r. ⌜ ((k : Call) → Carries k state counters (r .answer) (r .state) (r .counters)) ⌝ }
+    ensures { λ r. ⌜ ((k : Call) → Executes k state counters (r .answer) (r .state) (r .counters)) ⌝ }
 {
-    Called {
+    CallResult {
         answer: Answer::ForeignState,
         state: state,
         counters: counters,
@@ -121,56 +121,56 @@ fn foreign_state(state: Runtime, counters: Counters) -> Called
 }
 
 // Each call on a runtime is 11, then its core.
-pub fn begin(mut state: Runtime, counters: Counters, horizon: SimTime, budget: u64) -> Called
-    ensures { λ r. ⌜ Carries (Begin (value horizon) budget) state counters (r .answer) (r .state) (r .counters) ⌝ }
+pub fn begin(mut state: Runtime, counters: Counters, horizon: SimTime, budget: u64) -> CallResult
+    ensures { λ r. ⌜ Executes (Begin (ticksOf horizon) budget) state counters (r .answer) (r .state) (r .counters) ⌝ }
 {
     let head = state.head;
     if is_foreign(head, &state.edges, &state.pending, &state.batch) {
-        return foreign_state(state, counters);
+        return refuse_foreign(state, counters);
     }
-    let begun = starting::begin(head, horizon, budget);
+    let begun = begin_run::begin(head, horizon, budget);
     let answer = begun.answer;
     let left = begun.head;
     state.head = left;
-    Called {
+    CallResult {
         answer: answer,
         state: state,
         counters: counters,
     }
 }
 
-pub fn add_initial(mut state: Runtime, counters: Counters, m: Message) -> Called
-    ensures { λ r. ⌜ Carries (AddInitial (messageOf m)) state counters (r .answer) (r .state) (r .counters) ⌝ }
+pub fn add_initial(mut state: Runtime, counters: Counters, m: Message) -> CallResult
+    ensures { λ r. ⌜ Executes (AddInitial (messageOf m)) state counters (r .answer) (r .state) (r .counters) ⌝ }
 {
     let head = state.head;
     if is_foreign(head, &state.edges, &state.pending, &state.batch) {
-        return foreign_state(state, counters);
+        return refuse_foreign(state, counters);
     }
     let mut pending = state.pending;
-    let added = adding::add_initial(head, &state.edges, &mut pending, m);
+    let added = schedule_initial::add_initial(head, &state.edges, &mut pending, m);
     let answer = added.answer;
     let left = added.head;
     state.pending = pending;
     state.head = left;
-    Called {
+    CallResult {
         answer: answer,
         state: state,
         counters: counters,
     }
 }
 
-pub fn step(state: Runtime, counters: Counters) -> Called
-    ensures { λ r. ⌜ Carries Step state counters (r .answer) (r .state) (r .counters) ⌝ }
+pub fn step(state: Runtime, counters: Counters) -> CallResult
+    ensures { λ r. ⌜ Executes Step state counters (r .answer) (r .state) (r .counters) ⌝ }
 {
     let head = state.head;
     if is_foreign(head, &state.edges, &state.pending, &state.batch) {
-        return foreign_state(state, counters);
+        return refuse_foreign(state, counters);
     }
     let mut edges = state.edges;
     let mut pending = state.pending;
     let mut horizons = state.horizons;
     let mut batch = state.batch;
-    let stepped = stepping::step(
+    let stepped = step::step(
         head,
         counters,
         &mut edges,
@@ -181,7 +181,7 @@ pub fn step(state: Runtime, counters: Counters) -> Called
     let answer = stepped.answer;
     let left = stepped.head;
     let counted = stepped.counters;
-    Called {
+    CallResult {
         answer: answer,
         state: Runtime {
             edges: edges,
@@ -195,17 +195,17 @@ pub fn step(state: Runtime, counters: Counters) -> Called
 }
 
 // The reply has eight words to an emission; words that make no whole one are passed over.
-pub fn hand_back(mut state: Runtime, counters: Counters, mask: u64, reply: &[u64]) -> Called
-    ensures { λ r. ⌜ Carries (HandBack mask (emissionsOf (length (now (reply .entry)) / 8) (now (reply .entry)))) state counters (r .answer) (r .state) (r .counters) ⌝ }
+pub fn hand_back(mut state: Runtime, counters: Counters, mask: u64, reply: &[u64]) -> CallResult
+    ensures { λ r. ⌜ Executes (HandBack mask (emissionsOf (length (now (reply .entry)) / 8) (now (reply .entry)))) state counters (r .answer) (r .state) (r .counters) ⌝ }
 {
     let head = state.head;
     if is_foreign(head, &state.edges, &state.pending, &state.batch) {
-        return foreign_state(state, counters);
+        return refuse_foreign(state, counters);
     }
     let mut pending = state.pending;
     let mut horizons = state.horizons;
     let mut batch = state.batch;
-    let handed = handing::hand_back(
+    let handed = hand_back::hand_back(
         head,
         counters,
         &state.edges,
@@ -222,7 +222,7 @@ pub fn hand_back(mut state: Runtime, counters: Counters, mask: u64, reply: &[u64
     state.horizons = horizons;
     state.batch = batch;
     state.head = left;
-    Called {
+    CallResult {
         answer: answer,
         state: state,
         counters: counted,

@@ -1,4 +1,4 @@
--- What a head and its arrays are, where 11 lets their state pass.
+-- What a header and its arrays are, where 11 lets their state pass.
 use mathlib.Core.Path.{_≡_, refl}
 use mathlib.Core.Bool.{Bool, true, false, not}
 use mathlib.Core.List.{List, []}
@@ -6,23 +6,23 @@ use Prim.Native.Nat.{ℕ, zero, suc, _^_, _-_, _≤_, _<_}
 use native.Mathlib.Omega.{arith}
 use lib.Dec.{leb}
 use borrow.Author.Tests.{leb-false, lt-leb}
-use Rattle.types.specs.Value.{value}
+use Rattle.types.specs.Value.{ticksOf}
 use Rattle.words.specs.Words.{tab}
 use Rattle.words.proofs.Tab.{length-tab}
 use Rattle.records.specs.Records.{edgeAt, eventAt, eventsOf}
 use Rattle.records.proofs.Placing.{all-at}
 use Rattle.rules.specs.Base.{any, nonEmpty, rising}
-use Rattle.rules.specs.State.{Event, stored, top}
+use Rattle.rules.specs.State.{Event, stored, maxTick}
 use Rattle.rules.specs.Pending.{before}
-use Rattle.rules.specs.Foreign.{foreign, atTop, isUnset, byProcess}
+use Rattle.rules.specs.Foreign.{foreign, horizonIsMax, isUnset, byProcess}
 use Rattle.rules.proofs.Tests.{not-both, not-false, and-other}
 use Rattle.rules.proofs.Lists.{All, all-map, none-any}
 use Rattle.rules.proofs.Shape.{Shaped, Joined, Known, shaped}
-use Rattle.state.specs.declared.Head.{Head}
+use Rattle.state.specs.declared.Header.{Header}
 use Rattle.state.specs.View.{view, storedOf}
 
-stored-below : (b : Bool) (h k : ℕ) → b ≡ true → atTop (storedOf b h k) ≡ false → leb top h ≡ false
-unfolding atTop
+stored-below : (b : Bool) (h k : ℕ) → b ≡ true → horizonIsMax (storedOf b h k) ≡ false → leb maxTick h ≡ false
+unfolding horizonIsMax
 stored-below true h k e a = a
 stored-below false h k e a = not-both e (λ i. false)
 
@@ -45,7 +45,7 @@ unfolding tab
 no-events f i zero l = refl
 no-events f i (suc n) l = absurd (omega arith)
 
-module _ (h : Head) (E P Z B : List ℕ) (f : foreign (view h E P Z B) ≡ false) where
+module _ (h : Header) (E P Z B : List ℕ) (f : foreign (view h E P Z B) ≡ false) where
   shape : Shaped (view h E P Z B)
   shape = shaped (view h E P Z B) f
 
@@ -61,8 +61,13 @@ module _ (h : Head) (E P Z B : List ℕ) (f : foreign (view h E P Z B) ≡ false
   pub few-batch : h .batch ≤ 64
   few-batch = omega (arith, shape .held .few, length-tab (eventAt B) 0 (h .batch))
 
-  pub sources : (i : ℕ) → i < h .edges → edgeAt E i .source < 64
-  sources i l = let j : Joined (h .n) (edgeAt E i) = all-at (Joined (h .n)) (edgeAt E) 0 (h .edges) i (shape .wired .joined) (omega arith) (omega arith) in omega (arith, j .source, few-processes)
+  pub sources : (i : ℕ) → i < h .edges → edgeAt E i .source < h .n
+  sources i l = let j : Joined (h .n) (edgeAt E i) = all-at (Joined (h .n)) (edgeAt E) 0 (h .edges) i (shape .wired .joined) (omega arith) (omega arith) in j .source
+
+  pub edge-destinations : (i : ℕ) → i < h .edges → edgeAt E i .destination < 64
+  edge-destinations i l =
+      let j : Joined (h .n) (edgeAt E i) = all-at (Joined (h .n)) (edgeAt E) 0 (h .edges) i (shape .wired .joined) (omega arith) (omega arith) in
+      omega (arith, j .destination, few-processes)
 
   pub destinations : All (λ (e : Event). e .destination < h .n) (eventsOf (h .pending) P)
   destinations = all-map (Known (h .n)) (λ (e : Event). e .destination < h .n) (λ e k. k .destination) (eventsOf (h .pending) P) (shape .queued .known)
@@ -73,8 +78,8 @@ module _ (h : Head) (E P Z B : List ℕ) (f : foreign (view h E P Z B) ≡ false
   pub is-stored : h .running ≡ true → h .stored ≡ true
   is-stored r = stored-true (h .stored) _ _ (and-other (h .running) _ r (shape .runs .stored))
 
-  pub below-top : h .running ≡ true → value (h .horizon) < 2 ^ 128 - 1
-  below-top r = leb-false top _ (stored-below (h .stored) _ _ (is-stored r) (shape .runs .below))
+  pub below-top : h .running ≡ true → ticksOf (h .horizon) < 2 ^ 128 - 1
+  below-top r = leb-false maxTick _ (stored-below (h .stored) _ _ (is-stored r) (shape .runs .below))
 
   pub newest : any (λ e. leb (h .next) (e .sequence)) (eventsOf (h .pending) P) ≡ false
   newest = none-any (λ (e : Event). leb (h .next) (e .sequence)) (eventsOf (h .pending) P) (all-map (λ (e : Event). e .sequence < h .next) (λ (e : Event). leb (h .next) (e .sequence) ≡ false) (λ e l. lt-leb (h .next) (e .sequence) l) (eventsOf (h .pending) P) (shape .queued .numbers))

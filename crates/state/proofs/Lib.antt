@@ -1,3 +1,4 @@
 pub mod Facts
 pub mod Moves
 pub mod Deciding
+pub mod Queueing

@@ -1,6 +1,6 @@
 -- Answers that do not leave the state as given.
-use mathlib.Core.Path.{_≡_, refl}
-use mathlib.Core.Bool.{false}
+use mathlib.Core.Path.{_≡_, refl, sym}
+use mathlib.Core.Bool.{false, true, true≢false}
 use mathlib.Core.List.{List}
 use Prim.Native.Nat.{ℕ}
 use Rattle.rules.specs.Base.{any, anyOf}
@@ -8,37 +8,42 @@ use Rattle.rules.specs.State.{Event, State, Counters}
 use Rattle.rules.specs.Answers as A
 use Rattle.rules.specs.Answers.{refusalNumber, number}
 use Rattle.rules.specs.Rows.{unless, Out}
-use Rattle.rules.specs.HandBack.{Emission, processRows, lose}
+use Rattle.rules.specs.HandBack.{Emission, processRows, poisonWith}
 use Rattle.rules.proofs.Table.{by-firsts, firsts-all}
 use Rattle.rules.proofs.Cases.{Poisons, poison-processes}
-use Rattle.state.specs.Kept.{unmoved}
+use Rattle.state.specs.AsGiven.{leavesStateAsGiven}
+use Rattle.rules.specs.History.{refused}
 
-pub batch-moves : (es : List Event) (g : ℕ) → unmoved (A.Batch es g) ≡ false
-unfolding unmoved anyOf any number
+pub accepted-moves : {C : Type 0} → refused A.Accepted ≡ true → C
+unfolding refused
+accepted-moves x = absurd (true≢false (sym x))
+
+pub batch-moves : (es : List Event) (g : ℕ) → leavesStateAsGiven (A.Batch es g) ≡ false
+unfolding leavesStateAsGiven anyOf any number
 batch-moves es g = refl
 
-pub advanced-moves : (g : ℕ) → unmoved (A.Advanced g) ≡ false
-unfolding unmoved anyOf any number
+pub advanced-moves : (g : ℕ) → leavesStateAsGiven (A.Advanced g) ≡ false
+unfolding leavesStateAsGiven anyOf any number
 advanced-moves g = refl
 
-pub finished-moves : (g : ℕ) → unmoved (A.Finished g) ≡ false
-unfolding unmoved anyOf any number
+pub finished-moves : (g : ℕ) → leavesStateAsGiven (A.Finished g) ≡ false
+unfolding leavesStateAsGiven anyOf any number
 finished-moves g = refl
 
-pub committed-moves : (g : ℕ) → unmoved (A.Committed g) ≡ false
-unfolding unmoved anyOf any number
+pub committed-moves : (g : ℕ) → leavesStateAsGiven (A.Committed g) ≡ false
+unfolding leavesStateAsGiven anyOf any number
 committed-moves g = refl
 
-pub spent-moves : (b : ℕ) → unmoved (A.Refused (A.EventBudgetExceeded b)) ≡ false
-unfolding unmoved anyOf any number refusalNumber
+pub spent-moves : (b : ℕ) → leavesStateAsGiven (A.Refused (A.EventBudgetExceeded b)) ≡ false
+unfolding leavesStateAsGiven anyOf any number refusalNumber
 spent-moves b = refl
 
 -- Whatever poisons.
 unfoldable pub Moving : A.Refusal → Type 0
-Moving r = unmoved (A.Refused r) ≡ false
+Moving r = leavesStateAsGiven (A.Refused r) ≡ false
 
 pub moving : Poisons Moving
-unfolding Moving unmoved anyOf any number refusalNumber
+unfolding Moving leavesStateAsGiven anyOf any number refusalNumber
 moving = record {
   failed = λ p. refl;
   mismatch = λ p a. refl;
@@ -51,20 +56,20 @@ moving = record {
   full = refl;
 }
 
-pub overflow-moves : unmoved (A.Refused A.EventSequenceOverflow) ≡ false
+pub overflow-moves : leavesStateAsGiven (A.Refused A.EventSequenceOverflow) ≡ false
 unfolding Moving
 overflow-moves = moving .sequence
 
-pub full-moves : unmoved (A.Refused A.QueueFull) ≡ false
+pub full-moves : leavesStateAsGiven (A.Refused A.QueueFull) ≡ false
 unfolding Moving
 full-moves = moving .full
 
 -- So where a row of the reply decides, the state is not left as given.
 unfoldable Moved : Out → Type 0
-Moved o = unmoved (o .answer) ≡ false
+Moved o = leavesStateAsGiven (o .answer) ≡ false
 
-pub lost-moves : (s t : State) (c : Counters) (mask : ℕ) (xs : List Emission) (es : List Event) (d : Out) → unmoved (d .answer) ≡ false → unmoved (unless (processRows s mask xs es) (lose t c) d .answer) ≡ false
+pub lost-moves : (s t : State) (c : Counters) (mask : ℕ) (xs : List Emission) (es : List Event) (d : Out) → leavesStateAsGiven (d .answer) ≡ false → leavesStateAsGiven (unless (processRows s mask xs es) (poisonWith t c) d .answer) ≡ false
 unfolding Moving Moved
 lost-moves s t c mask xs es d m =
-    by-firsts Moved (processRows s mask xs es) (lose t c) d
-    (firsts-all (λ r. Moved (lose t c r)) (processRows s mask xs es) (poison-processes Moving moving s mask xs es)) (λ _. m)
+    by-firsts Moved (processRows s mask xs es) (poisonWith t c) d
+    (firsts-all (λ r. Moved (poisonWith t c r)) (processRows s mask xs es) (poison-processes Moving moving s mask xs es)) (λ _. m)

@@ -1,5 +1,5 @@
 pub mod View
-pub mod Heads
-pub mod Lent
-pub mod Kept
-pub mod Decided
+pub mod Headers
+pub mod ValidArrays
+pub mod AsGiven
+pub mod RefusalOr

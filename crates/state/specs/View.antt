@@ -2,13 +2,13 @@
 use mathlib.Core.Bool.{Bool, true, false}
 use mathlib.Core.List.{List}
 use Prim.Native.Nat.{ℕ}
-use Rattle.types.specs.Value.{value, span, id}
+use Rattle.types.specs.Value.{ticksOf, durationOf, lpIdOf}
 use Rattle.words.specs.Words.{horizonsOf}
 use Rattle.records.specs.Records.{payloadOf, edgesOf, eventsOf}
 use Rattle.rules.specs.State as R
 use Rattle.rules.specs.State.{Event, Stored, unset, stored, State}
 use Rattle.rules.specs.Answers as A
-use Rattle.state.specs.declared.Head.{Head}
+use Rattle.state.specs.declared.Header.{Header}
 use Rattle.state.specs.declared.Runtime.{Runtime}
 use Rattle.state.specs.declared.Counters.{Counters}
 use Rattle.state.specs.declared.Message.{Message}
@@ -20,17 +20,17 @@ abbrev pub storedOf : Bool → ℕ → ℕ → Stored
 storedOf true h b = stored h b
 storedOf false h b = unset
 
--- The first records of each array, as many as the head says. Reading past an array's end gives zeros, so a count over its limit is one of the state too.
-abbrev pub view : Head → List ℕ → List ℕ → List ℕ → List ℕ → State
+-- The first records of each array, as many as the header says. Reading past an array's end gives zeros, so a count over its limit is one of the state too.
+abbrev pub view : Header → List ℕ → List ℕ → List ℕ → List ℕ → State
 view h edges pending horizons batch = record {
   n = h .n;
-  lookahead = span (h .lookahead);
+  lookahead = durationOf (h .lookahead);
   edges = edgesOf (h .edges) edges;
   pending = eventsOf (h .pending) pending;
   next = h .next;
   horizons = horizonsOf (h .n) horizons;
-  gvt = value (h .gvt);
-  stored = storedOf (h .stored) (value (h .horizon)) (h .budget);
+  gvt = ticksOf (h .gvt);
+  stored = storedOf (h .stored) (ticksOf (h .horizon)) (h .budget);
   used = h .used;
   batch = eventsOf (h .batch) batch;
   initial = h .initial;
@@ -42,18 +42,18 @@ abbrev pub viewOf : Runtime → State
 viewOf s = view (s .head) (s .edges) (s .pending) (s .horizons) (s .batch)
 
 abbrev pub countersOf : Counters → R.Counters
-countersOf c = record { handled = c .handled; emitted = c .emitted; remote = c .remote; rounds = c .rounds; nulls = c .nulls; workers = c .workers }
+countersOf c = record { handled = c .«processed_events»; emitted = c .«emitted_events»; remote = c .«remote_events»; rounds = c .rounds; «null_messages» = c .«null_messages»; «worker_count» = c .«worker_count» }
 
 abbrev pub messageOf : Message → R.Message
-messageOf m = record { source = id (m .source); destination = id (m .destination); tick = value (m .time); payload = payloadOf (m .len) (m .p0) (m .p1) }
+messageOf m = record { source = lpIdOf (m .source); destination = lpIdOf (m .destination); tick = ticksOf (m .tick); payload = payloadOf (m .len) (m .«payload_hi») (m .«payload_lo») }
 
 -- The rules' answer that each answer stands for, with the batch in hand after it; its number and values are the rules' `number` and `values`.
 abbrev pub answerOf : List Event → Answer → A.Answer
 answerOf es P.Accepted = A.Accepted
-answerOf es (P.Batch g) = A.Batch es (value g)
-answerOf es (P.Advanced g) = A.Advanced (value g)
-answerOf es (P.Finished g) = A.Finished (value g)
-answerOf es (P.Committed g) = A.Committed (value g)
+answerOf es (P.Batch g) = A.Batch es (ticksOf g)
+answerOf es (P.Advanced g) = A.Advanced (ticksOf g)
+answerOf es (P.Finished g) = A.Finished (ticksOf g)
+answerOf es (P.Committed g) = A.Committed (ticksOf g)
 answerOf es P.ForeignState = A.Refused A.ForeignState
 answerOf es P.Poisoned = A.Refused A.Poisoned
 answerOf es P.InitialEventsAlreadyClosed = A.Refused A.InitialEventsAlreadyClosed
@@ -64,8 +64,8 @@ answerOf es (P.PayloadTooLong k) = A.Refused (A.PayloadTooLong k)
 answerOf es P.QueueFull = A.Refused A.QueueFull
 answerOf es P.EventSequenceOverflow = A.Refused A.EventSequenceOverflow
 answerOf es P.RunOpen = A.Refused A.RunOpen
-answerOf es (P.HorizonRegression g h) = A.Refused (A.HorizonRegression (value g) (value h))
-answerOf es (P.HorizonOverflow h) = A.Refused (A.HorizonOverflow (value h))
+answerOf es (P.HorizonRegression g h) = A.Refused (A.HorizonRegression (ticksOf g) (ticksOf h))
+answerOf es (P.HorizonOverflow h) = A.Refused (A.HorizonOverflow (ticksOf h))
 answerOf es P.NothingToStep = A.Refused A.NothingToStep
 answerOf es (P.EventBudgetExceeded b) = A.Refused (A.EventBudgetExceeded b)
 answerOf es P.NoBatch = A.Refused A.NoBatch
@@ -74,6 +74,6 @@ answerOf es (P.HandlerFailed p) = A.Refused (A.HandlerFailed p)
 answerOf es (P.OutboundSourceMismatch p a) = A.Refused (A.OutboundSourceMismatch p a)
 answerOf es (P.UnknownOutboundDestination b) = A.Refused (A.UnknownOutboundDestination b)
 answerOf es (P.OutboundRouteMissing a b) = A.Refused (A.OutboundRouteMissing a b)
-answerOf es (P.LookaheadOverflow p t l) = A.Refused (A.LookaheadOverflow p (value t) (span l))
-answerOf es (P.OutboundLookaheadViolation p t u m) = A.Refused (A.OutboundLookaheadViolation p (value t) (value u) (value m))
-answerOf es (P.Straggler b u h) = A.Refused (A.Straggler b (value u) (value h))
+answerOf es (P.LookaheadOverflow p t l) = A.Refused (A.LookaheadOverflow p (ticksOf t) (durationOf l))
+answerOf es (P.OutboundLookaheadViolation p t u m) = A.Refused (A.OutboundLookaheadViolation p (ticksOf t) (ticksOf u) (ticksOf m))
+answerOf es (P.Straggler b u h) = A.Refused (A.Straggler b (ticksOf u) (ticksOf h))

@@ -1,15 +1,19 @@
-// What a runtime is made of: its head, which stands beside four arrays of words, its counters, and
-// what its calls answer. specs/View.antt says which state of the rules a head and its arrays are.
+// What a runtime is made of: its header, which stands beside four arrays of words, its counters, and
+// what its calls answer. specs/View.antt says which state of the rules a header and its arrays are.
 use types::LpId;
+use types::MAX_COUNT;
+use types::MAX_PENDING;
 use types::SimDuration;
 use types::SimTime;
 ghost use mathlib.Core.Path.{_≡_};
-ghost use Rattle.rules.specs.State.{raise};
+ghost use Prim.Native.Nat.{_+_};
+ghost use lib.Dec.{ltb};
+ghost use Rattle.rules.specs.State.{saturatingAdd, maxCount, maxPending};
 
 // The small fields of a runtime. `edges`, `pending` and `batch` are how many there are; `next` is the
 // next sequence number; `stored` says whether `horizon` and `budget` are set; `initial`, that initial
 // events are open; `running`, that a run is open.
-pub struct Head {
+pub struct Header {
     pub n: usize,
     pub lookahead: SimDuration,
     pub edges: usize,
@@ -26,24 +30,24 @@ pub struct Head {
     pub poisoned: bool,
 }
 
-// A runtime by value. The head comes last: a search for a fact enters only so many records, and has to
+// A runtime by value. The header comes last: a search for a fact enters only so many records, and has to
 // come to the arrays.
 pub struct Runtime {
     pub edges: [u64; 2048],
     pub pending: [u64; 4096],
     pub horizons: [u64; 128],
     pub batch: [u64; 512],
-    pub head: Head,
+    pub head: Header,
 }
 
 // The counters of the report.
 pub struct Counters {
-    pub handled: u64,
-    pub emitted: u64,
-    pub remote: u64,
+    pub processed_events: u64,
+    pub emitted_events: u64,
+    pub remote_events: u64,
     pub rounds: u64,
-    pub nulls: u64,
-    pub workers: u64,
+    pub null_messages: u64,
+    pub worker_count: u64,
 }
 
 // An event before it is accepted: its payload is `len` bytes, the first 16 of them in two words, first
@@ -51,10 +55,10 @@ pub struct Counters {
 pub struct Message {
     pub source: LpId,
     pub destination: LpId,
-    pub time: SimTime,
+    pub tick: SimTime,
     pub len: u64,
-    pub p0: u64,
-    pub p1: u64,
+    pub payload_hi: u64,
+    pub payload_lo: u64,
 }
 
 // What add initial, begin, step and hand back answer. The events of a batch are those in hand in the
@@ -90,20 +94,43 @@ pub enum Answer {
     Straggler(u64, SimTime, SimTime),
 }
 
-// What a step or a hand back gives: its answer, with the head and the counters left.
-pub struct After {
+// An answer and the header left with it.
+pub struct HeaderResult {
     pub answer: Answer,
-    pub head: Head,
+    pub head: Header,
+}
+
+// What a step or a hand back gives: its answer, with the header and the counters left.
+pub struct CoreResult {
+    pub answer: Answer,
+    pub head: Header,
     pub counters: Counters,
 }
 
 // "Counters, used among them, stop at 2^64 - 1."
-pub fn raised(count: u64, by: u64) -> u64
-    ensures { λ r. ⌜ r ≡ raise count by ⌝ }
+pub fn saturating_add(count: u64, by: u64) -> u64
+    ensures { λ r. ⌜ r ≡ saturatingAdd count by ⌝ }
 {
-    let room = 18446744073709551615 - count;
+    let room = MAX_COUNT - count;
     if room < by {
-        return 18446744073709551615;
+        return MAX_COUNT;
     }
     count + by
+}
+
+// 18: so many events more would not fit.
+pub fn is_queue_full(pending: usize, more: usize) -> bool
+    ensures { λ r. ⌜ r ≡ ltb maxPending (pending + more) ⌝ }
+{
+    if MAX_PENDING < pending {
+        return true;
+    }
+    MAX_PENDING - pending < more
+}
+
+// 19: the next sequence number after so many events more would pass 2^64 - 1.
+pub fn sequence_exhausted(next: u64, more: u64) -> bool
+    ensures { λ r. ⌜ r ≡ ltb maxCount (next + more) ⌝ }
+{
+    MAX_COUNT - next < more
 }

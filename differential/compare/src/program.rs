@@ -1,4 +1,4 @@
-//! Our program `plans` (crates/plans) against the original: the lines that it prints for the plans in
+//! Our program `plans` (crates/partition_main) against the original: the lines that it prints for the plans in
 //! lists of calls.
 use crate::plans;
 use crate::shrink::shrink;

@@ -20,8 +20,8 @@ fn counters(dice: &mut Dice) -> Counters {
         emitted: near_most(dice),
         remote: near_most(dice),
         rounds: near_most(dice),
-        nulls: near_most(dice),
-        workers: dice.below(3),
+        null_messages: near_most(dice),
+        worker_count: dice.below(3),
     }
 }
 

@@ -149,9 +149,9 @@ impl Rules {
         if !self.wrong(Variant::RoundsAlwaysZero) {
             c.rounds = self.raise(c.rounds, 1);
         }
-        c.workers = match self.variant() {
+        c.worker_count = match self.variant() {
             Variant::WorkersOfLastBatch => handled,
-            _ => c.workers.max(handled),
+            _ => c.worker_count.max(handled),
         };
         c
     }

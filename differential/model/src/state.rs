@@ -117,8 +117,8 @@ pub struct Counters {
     pub emitted: u64,
     pub remote: u64,
     pub rounds: u64,
-    pub nulls: u64,
-    pub workers: u64,
+    pub null_messages: u64,
+    pub worker_count: u64,
 }
 
 /// The stored horizon and budget.

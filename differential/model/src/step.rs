@@ -129,11 +129,11 @@ impl Rules {
     }
 
     /// "If anything rose, rounds + 1."
-    fn count_advance(self, mut c: Counters, nulls: u64) -> Counters {
+    fn count_advance(self, mut c: Counters, null_messages: u64) -> Counters {
         if !self.wrong(Variant::RoundsAlwaysZero) {
             c.rounds = self.raise(c.rounds, 1);
         }
-        c.nulls = self.raise(c.nulls, nulls);
+        c.null_messages = self.raise(c.null_messages, null_messages);
         c
     }
 
@@ -148,16 +148,16 @@ impl Rules {
         let h = exclusive(horizon);
         let edges = self.new_edges(&s, h);
         let horizons = self.new_horizons(&s, h);
-        let nulls = self.nulls_of(&s.edges, &edges);
+        let null_messages = self.nulls_of(&s.edges, &edges);
         let rose = match self.variant() {
-            Variant::HorizonsAreNoAdvance => nulls > 0,
-            _ => nulls > 0 || any_raised(&s.horizons, &horizons),
+            Variant::HorizonsAreNoAdvance => null_messages > 0,
+            _ => null_messages > 0 || any_raised(&s.horizons, &horizons),
         };
         let old = std::mem::replace(&mut s.edges, edges);
         s.horizons = horizons;
         let mut s = self.refreshed(s, horizon, &old);
         if rose {
-            let c = self.count_advance(c, nulls);
+            let c = self.count_advance(c, null_messages);
             return Out::new(Answer::Advanced(s.gvt), s, c);
         }
         if self.complete(&s, h) {

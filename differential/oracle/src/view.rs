@@ -79,8 +79,8 @@ pub fn counters(runtime: &Runtime) -> Counters {
         emitted: report.emitted_events,
         remote: report.remote_events,
         rounds: report.rounds,
-        nulls: report.null_messages,
-        workers: report.worker_count as u64,
+        null_messages: report.null_messages,
+        worker_count: report.worker_count as u64,
     }
 }
 
@@ -108,6 +108,6 @@ pub fn set(runtime: &mut Runtime, odd: &Odd) {
     report.emitted_events = odd.counters.emitted;
     report.remote_events = odd.counters.remote;
     report.rounds = odd.counters.rounds;
-    report.null_messages = odd.counters.nulls;
-    report.worker_count = odd.counters.workers as usize;
+    report.null_messages = odd.counters.null_messages;
+    report.worker_count = odd.counters.worker_count as usize;
 }

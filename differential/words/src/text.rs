@@ -20,10 +20,10 @@ fn counted(c: &Counters, used: u64) -> String {
         emitted,
         remote,
         rounds,
-        nulls,
-        workers,
+        null_messages,
+        worker_count,
     } = c;
-    format!("{handled} {emitted} {remote} {rounds} {nulls} {workers} {used}")
+    format!("{handled} {emitted} {remote} {rounds} {null_messages} {worker_count} {used}")
 }
 
 fn reading(reading: &Reading) -> String {

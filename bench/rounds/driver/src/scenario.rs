@@ -85,7 +85,7 @@ impl Delay {
     }
 }
 
-/// What is compared: handled, emitted, remote, rounds, nulls, workers, GVT in two words, pending.
+/// What is compared: handled, emitted, remote, rounds, null_messages, worker_count, GVT in two words, pending.
 pub type Ended = [u64; 9];
 
 pub const HANDLED: usize = 0;

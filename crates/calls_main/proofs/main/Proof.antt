@@ -12,8 +12,8 @@ abbrev μ-loop : tie.MeasureT-loop
 loop-holds : tie.Need-loop-holds Inv-loop μ-loop
 loop-holds c = tt
 
-carry-out-list-requires : tie.Need-carry-out-list-requires Inv-loop μ-loop
-carry-out-list-requires c κs = search needs
+execute-list-requires : tie.Need-execute-list-requires Inv-loop μ-loop
+execute-list-requires c κs = search needs
 
 sub-left : tie.Need-sub-left Inv-loop μ-loop
 sub-left c = omega arith
@@ -37,7 +37,7 @@ main-spec =
     Inv-loop
     μ-loop
     loop-holds
-    carry-out-list-requires
+    execute-list-requires
     sub-left
     loop-less
     loop-again

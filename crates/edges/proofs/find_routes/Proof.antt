@@ -1,7 +1,7 @@
 use mathlib.Core.Path.{_≡_}
 use lib.ListN.{length}
 use borrow.Author.Needs.{needs}
-use Rattle.edges.proofs.Marks.{not-strange, Routing, routing-cleared, routing-more, routing-end}
+use Rattle.edges.proofs.Marks.{not-unknown, Routing, routing-empty, routing-more, routing-end}
 use Rattle.edges.proofs.find_routes.Statement.{statement}
 use Rattle.edges.proofs.find_routes.Tie as tie
 
@@ -11,17 +11,14 @@ Inv-loop edges count routes₀ i₀ routes i = (length routes ≡ 64) × Routing
 abbrev μ-loop : tie.MeasureT-loop
 μ-loop edges count routes₀ i₀ routes i = i
 
-clear-requires : tie.Need-clear-requires Inv-loop μ-loop
-clear-requires c κs = search needs
-
 loop-holds : tie.Need-loop-holds Inv-loop μ-loop
-loop-holds c = search (routing-cleared, needs)
+loop-holds c = search (routing-empty, needs)
 
 sub-i : tie.Need-sub-i Inv-loop μ-loop
 sub-i c = search needs
 
-mark-requires : tie.Need-mark-requires Inv-loop μ-loop
-mark-requires c κs = search (not-strange, needs)
+mark-route-requires : tie.Need-mark-route-requires Inv-loop μ-loop
+mark-route-requires c κs = search (not-unknown, needs)
 
 loop-less : tie.Need-loop-less Inv-loop μ-loop
 loop-less c = search needs
@@ -41,10 +38,9 @@ find-routes-spec =
     (tie.spec
     Inv-loop
     μ-loop
-    clear-requires
     loop-holds
     sub-i
-    mark-requires
+    mark-route-requires
     loop-less
     loop-again
     same-length

@@ -1,53 +1,35 @@
 use borrow.Author.Needs.{needs}
-use Rattle.frontiers.proofs.Rising.{horizon-up, horizon-kept}
+use Rattle.frontiers.proofs.RaisingHorizons.{horizon-rises}
 use Rattle.frontiers.proofs.raise_horizon.Statement.{statement}
 use Rattle.frontiers.proofs.raise_horizon.Tie as tie
 
-mul-tick-in : tie.Need-mul-tick-in
-mul-tick-in c = search needs
-
-tick-in-requires : tie.Need-tick-in-requires
-tick-in-requires c κs = search needs
-
-mul-tick-in-2 : tie.Need-mul-tick-in-2
-mul-tick-in-2 c = search needs
-
-tick-in-requires-2 : tie.Need-tick-in-requires-2
-tick-in-requires-2 c κs = search needs
-
-lt-requires : tie.Need-lt-requires
-lt-requires c κs = search needs
-
-mul-put-tick : tie.Need-mul-put-tick
-mul-put-tick c = search needs
-
-put-tick-requires : tie.Need-put-tick-requires
-put-tick-requires c κs = search needs
-
-same-length : tie.Need-same-length
-same-length c = search needs
-
 returns : tie.Need-returns
-returns c = search horizon-up depth 1
-
-same-length-2 : tie.Need-same-length-2
-same-length-2 c = search needs
-
-returns-2 : tie.Need-returns-2
-returns-2 c = search horizon-kept depth 1
+returns c =
+    let least = c .before in
+    let low = least .before in
+    let now-at = low .before .before .before in
+    let up = now-at .before .before .before .before in
+    let to = up .before in
+    let tick = to .before .before in
+    let front = tick .before in
+    let start = front .before .before .before .before in
+    horizon-rises _ _ _ _ _ (start .args .found) _ _ _ _ _ _ _ _ (start .pre .0) (start .pre .1) (front .tick-in .ensures) (tick .tick-in2 .ensures) (to .min .ensures) (up .raise-tick .ensures) (now-at .tick-in3 .ensures) (low .min2 .ensures) (least .min3 .ensures) (c .either .ensures)
 
 pub raise-horizon-spec : {M : Type 1} → statement M
 raise-horizon-spec =
     tie.close
     (tie.spec
-    mul-tick-in
-    tick-in-requires
-    mul-tick-in-2
-    tick-in-requires-2
-    lt-requires
-    mul-put-tick
-    put-tick-requires
-    same-length
-    returns
-    same-length-2
-    returns-2)
+    (λ c. search needs)
+    (λ c κs. search needs)
+    (λ c. search needs)
+    (λ c κs. search needs)
+    (λ c. search needs)
+    (λ c κs. search needs)
+    (λ c κs. search needs)
+    (λ c. search needs)
+    (λ c κs. search needs)
+    (λ c κs. search needs)
+    (λ c κs. search needs)
+    (λ c κs. search needs)
+    (λ c. search needs)
+    returns)

@@ -34,26 +34,26 @@ use denote.Triple.Table.{entered, cited}
 use denote.Triple.Walked.{says, Stays, stay-ref, stay-dropped, walkOf, AllGo, goes-dropped, goes-ref, Walks, ends-at, walked, walk-meets}
 use denote.Exit.{yes}
 use Rattle.types.specs.declared.SimTime.{SimTime}
-use Rattle.types.specs.Value.{value}
+use Rattle.types.specs.Value.{ticksOf}
 use Rattle.rules.specs.Calls.{Begin}
 use Rattle.state.specs.declared.Counters.{Counters}
 use Rattle.state.specs.declared.Runtime.{Runtime}
-use Rattle.runtime.specs.declared.Called.{Called}
-use Rattle.runtime.specs.Carries.{Carries}
+use Rattle.runtime.specs.declared.CallResult.{CallResult}
+use Rattle.runtime.specs.Executes.{Executes}
 use Rattle.types.proofs.SimTime as Q
 use Rattle.types.proofs.SimTime.Laws as Q′
 use Rattle.state.proofs.Counters as T
 use Rattle.state.proofs.Counters.Laws as T′
 use Rattle.state.proofs.Runtime as S
 use Rattle.state.proofs.Runtime.Laws as S′
-use Rattle.runtime.proofs.Called as B
-use Rattle.runtime.proofs.Called.Laws as B′
+use Rattle.runtime.proofs.CallResult as B
+use Rattle.runtime.proofs.CallResult.Laws as B′
 use Rattle.runtime.proofs.begin as core
 use Rattle.runtime.proofs.begin.Symbol as core-def
 use Rattle.runtime.proofs.begin.Symbol.{name as #runtime·begin}
 use Rattle.runtime.proofs.begin.Met as core-thm
-use Rattle.host.proofs.Done as D
-use Rattle.host.proofs.Done.Laws as D′
+use Rattle.host.proofs.HostCallResult as D
+use Rattle.host.proofs.HostCallResult.Laws as D′
 use Rattle.host.proofs.Thin.{doneOf, counts, handed}
 use Rattle.host.proofs.begin.Key.{name as #host·begin}
 use Rattle.host.proofs.begin as f
@@ -95,8 +95,8 @@ module _ {M : Type 1} (𝓤 : URA M) (H : Heap 𝓤) (A : Atoms 𝓤) (W : Given
   abbrev to-core : Core 𝓤 H A at-mem run .Ghost
   to-core = ((tt, tt, tt, x′, (vals-s, (vals-h, (vals-t, (vals-n, tt))))), tt)
 
-  abbrev Ran : Called → Type 0
-  Ran r = Carries (Begin (value t) n) s h (r .answer) (r .state) (r .counters)
+  abbrev Ran : CallResult → Type 0
+  Ran r = Executes (Begin (ticksOf t) n) s h (r .answer) (r .state) (r .counters)
 
   abbrev Post : Val → SProp 𝓤
   Post = walkOf 𝓤 H A f.ended stayed (f.clauses 𝓤 H A at-mem run) .post (((κ, tt), (q, tt), tt, x, at), tt)
@@ -105,15 +105,15 @@ module _ {M : Type 1} (𝓤 : URA M) (H : Heap 𝓤) (A : Atoms 𝓤) (W : Given
   asked = qed W (‵ (T.the-row .own h vals-h) ∷ (‵ (S.the-row .own s vals-s) ⊛ ‵ (owns (Q.the-row ∷ u64 ∷ []) (t, (n, tt)) (vals-t, (vals-n, tt)))) ∷ []) ∵ move ! (1 ∷ []) $ split ! $ move ! (2 ∷ 1 ∷ []) $ join ! $ move ! (1 ∷ 0 ∷ []) $ join ! $ nothing ! $ join ! $ frame ! $ done !
 
   -- of the callee's `ensured`, the clause alone: it has no `&mut`
-  ran : (r : Called) → ent 𝓤 (ensured 𝓤 H A core.ended (core.clauses 𝓤 H A at-mem run) tt x′ tt r) (fact 𝓤 (Ran r))
+  ran : (r : CallResult) → ent 𝓤 (ensured 𝓤 H A core.ended (core.clauses 𝓤 H A at-mem run) tt x′ tt r) (fact 𝓤 (Ran r))
   ran r = exE 𝓤 _ (λ ws. snd∗ 𝓤 (sem 𝓤 H A (lasts core.ended tt x′ ws)) (fact 𝓤 (Ran r)))
 
-  gave : (v : Val) → ent 𝓤 (Core 𝓤 H A at-mem run .post to-core v) (H .⇛ (ex 𝓤 (λ (r : Called). sep 𝓤 (sem 𝓤 H A (B.the-row .own r (v ∷ []))) (fact 𝓤 (Ran r)))))
+  gave : (v : Val) → ent 𝓤 (Core 𝓤 H A at-mem run .post to-core v) (H .⇛ (ex 𝓤 (λ (r : CallResult). sep 𝓤 (sem 𝓤 H A (B.the-row .own r (v ∷ []))) (fact 𝓤 (Ran r)))))
   gave v =
-      qed W (later (some (λ (r : Called). (‵ ftrue ⊛ ‵ (B.the-row .own r (v ∷ []))) ⊛ raw (ensured 𝓤 H A core.ended (core.clauses 𝓤 H A at-mem run) tt x′ tt r))) ∷ []) ∵ updating ! $ await ! tt $ pick ! (λ r.
-      split ! $ move ! (1 ∷ []) $ use1 W (raw (fact 𝓤 (Ran r))) (ran r) $ move ! (1 ∷ []) $ split ! $ drop ! $ at-once ! $ show ! (λ (g : Called). sep 𝓤 (sem 𝓤 H A (B.the-row .own g (v ∷ []))) (fact 𝓤 (Ran g))) r $ done !)
+      qed W (later (some (λ (r : CallResult). (‵ ftrue ⊛ ‵ (B.the-row .own r (v ∷ []))) ⊛ raw (ensured 𝓤 H A core.ended (core.clauses 𝓤 H A at-mem run) tt x′ tt r))) ∷ []) ∵ updating ! $ await ! tt $ pick ! (λ r.
+      split ! $ move ! (1 ∷ []) $ use1 W (raw (fact 𝓤 (Ran r))) (ran r) $ move ! (1 ∷ []) $ split ! $ drop ! $ at-once ! $ show ! (λ (g : CallResult). sep 𝓤 (sem 𝓤 H A (B.the-row .own g (v ∷ []))) (fact 𝓤 (Ran g))) r $ done !)
 
-  exits : (r : Called) → Is B.the-row r (LL.vals B.the-type B′.the-laws r) → Ran r
+  exits : (r : CallResult) → Is B.the-row r (LL.vals B.the-type B′.the-laws r) → Ran r
       → ent 𝓤 (sep 𝓤 (A .obs γ (T.the-row .coded .code (r .counters))) (sep 𝓤 (A .bor κ (Body (mem T.the-row) b o γ)) (A .lft κ q))) (Post (LL.val D.the-type D′.the-laws (doneOf r)))
   exits r is e =
       qed W (‵ (fobs γ (T.the-row .coded .code (r .counters))) ∷ ‵ (fbor κ (Body (mem T.the-row) b o γ)) ∷ ‵ (flft κ q) ∷ []) ∵

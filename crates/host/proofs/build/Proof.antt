@@ -40,24 +40,24 @@ use denote.Triple.Table.{entered, cited}
 use denote.Triple.Walked.{says, Stays, stay-ref, stay-dropped, walkOf, AllGo, goes-dropped, goes-ref, Walks, ends-at, walked, walk-meets}
 use denote.Exit.{yes}
 use Rattle.types.specs.declared.SimDuration.{SimDuration}
-use Rattle.types.specs.Value.{span}
+use Rattle.types.specs.Value.{durationOf}
 use Rattle.rules.specs.Build.{setup}
 use Rattle.state.specs.declared.Counters.{Counters}
-use Rattle.runtime.specs.declared.Built.{Built}
+use Rattle.runtime.specs.declared.BuildResult.{BuildResult}
 use Rattle.runtime.specs.Builds.{Builds}
-use Rattle.host.specs.declared.Made.{Made}
+use Rattle.host.specs.declared.HostBuildResult.{HostBuildResult}
 use Rattle.types.proofs.SimDuration as Q
 use Rattle.types.proofs.SimDuration.Laws as Q′
 use Rattle.state.proofs.Counters as T
 use Rattle.state.proofs.Counters.Laws as T′
-use Rattle.runtime.proofs.Built as B
-use Rattle.runtime.proofs.Built.Laws as B′
+use Rattle.runtime.proofs.BuildResult as B
+use Rattle.runtime.proofs.BuildResult.Laws as B′
 use Rattle.runtime.proofs.build as core
 use Rattle.runtime.proofs.build.Symbol as core-def
 use Rattle.runtime.proofs.build.Symbol.{name as #runtime·build}
 use Rattle.runtime.proofs.build.Met as core-thm
-use Rattle.host.proofs.Made as D
-use Rattle.host.proofs.Made.Laws as D′
+use Rattle.host.proofs.HostBuildResult as D
+use Rattle.host.proofs.HostBuildResult.Laws as D′
 use Rattle.host.proofs.build.Key.{name as #host·build}
 use Rattle.host.proofs.build as f
 use Rattle.host.proofs.build.Statement as stated
@@ -89,11 +89,11 @@ abbrev builtTy : Ty
 builtTy = spell m.table (pointee (B.the-row .written))
 
 -- of what build gave, what a host is given
-abbrev madeOf : Built → Made
+abbrev madeOf : BuildResult → HostBuildResult
 madeOf r = record { answer = r .answer; state = r .state }
 
 -- and what owning the whole tells of its fields
-module _ (r : Built) (is : Is B.the-row r (LL.vals B.the-type B′.the-laws r)) where
+module _ (r : BuildResult) (is : Is B.the-row r (LL.vals B.the-type B′.the-laws r)) where
   is-made : Is D.the-row (madeOf r) (LL.vals D.the-type D′.the-laws (madeOf r))
   is-made = LL.owes D.the-type D′.the-laws (madeOf r) (LL.owed B.the-type B′.the-laws r _ is .0, (LL.owed B.the-type B′.the-laws r _ is .1 .0, tt))
 
@@ -135,8 +135,8 @@ module _ {M : Type 1} (𝓤 : URA M) (H : Heap 𝓤) (A : Atoms 𝓤) (W : Given
   abbrev to-core : Core 𝓤 H A at-mem run .Ghost
   to-core = (((κ, tt), (q, tt), tt, x′, at′), tt)
 
-  abbrev Ran : Built → Type 0
-  Ran r = Builds (setup n (span L) (now ids) (now sources) (now counts) (now destinations)) h r
+  abbrev Ran : BuildResult → Type 0
+  Ran r = Builds (setup n (durationOf L) (now ids) (now sources) (now counts) (now destinations)) h r
 
   abbrev Post : Val → SProp 𝓤
   Post = walkOf 𝓤 H A f.ended stayed (f.clauses 𝓤 H A at-mem run) .post (((κ, (κ′, tt)), (q, (q′, tt)), tt, x, at), tt)
@@ -145,10 +145,10 @@ module _ {M : Type 1} (𝓤 : URA M) (H : Heap 𝓤) (A : Atoms 𝓤) (W : Given
   goes-core = qed W (‵ (flft κ q) ∷ ‵ (owns (u64 ∷ Q.the-row ∷ ShrSlice (named 0) κ u32 ∷ ShrSlice (named 0) κ u32 ∷ ShrSlice (named 0) κ u64 ∷ ShrSlice (named 0) κ u32 ∷ T.the-row ∷ []) x′ at′) ∷ []) ∵ nothing ! $ move ! (1 ∷ 0 ∷ []) $ join ! $ join ! $ frame ! $ done !
 
   -- of the callee's `ensured`, the clause alone: it has no `&mut`
-  ran : (r : Built) → ent 𝓤 (ensured 𝓤 H A core.ended (core.clauses 𝓤 H A at-mem run) (κ, tt) x′ tt r) (fact 𝓤 (Ran r))
+  ran : (r : BuildResult) → ent 𝓤 (ensured 𝓤 H A core.ended (core.clauses 𝓤 H A at-mem run) (κ, tt) x′ tt r) (fact 𝓤 (Ran r))
   ran r = exE 𝓤 _ (λ ws. snd∗ 𝓤 (sem 𝓤 H A (lasts core.ended (κ, tt) x′ ws)) (fact 𝓤 (Ran r)))
 
-  exits : (r : Built) → Is B.the-row r (LL.vals B.the-type B′.the-laws r) → Ran r
+  exits : (r : BuildResult) → Is B.the-row r (LL.vals B.the-type B′.the-laws r) → Ran r
       → ent 𝓤 (sep 𝓤 (A .obs γ (T.the-row .coded .code (r .counters))) (sep 𝓤 (A .bor κ′ (Body (mem T.the-row) b o γ)) (sep 𝓤 (A .lft κ′ q′) (sep 𝓤 (A .lft κ q) (emp 𝓤))))) (Post (LL.val D.the-type D′.the-laws (madeOf r)))
   exits r is e =
       qed W (‵ (fobs γ (T.the-row .coded .code (r .counters))) ∷ ‵ (fbor κ′ (Body (mem T.the-row) b o γ)) ∷ ‵ (flft κ′ q′) ∷ (‵ (flft κ q) ⊛ ‵ ftrue) ∷ []) ∵
@@ -188,7 +188,7 @@ module _ {M : Type 1} (𝓤 : URA M) (H : Heap 𝓤) (A : Atoms 𝓤) (W : Given
         move ! (1 ∷ 0 ∷ []) $ fjoin ! $ move ! (1 ∷ 0 ∷ []) $ fjoin ! $ move ! (1 ∷ 0 ∷ []) $ fjoin ! $ move ! (1 ∷ 0 ∷ []) $ use2 W (raw (Core 𝓤 H A at-mem run .pre to-core)) goes-core $
         -- [what the callee asks; the cell; the open borrow; obs; auth; the copy; …; room for r; …; _7; …; .. _1; …; room for _0; …]
         calls-at ! fm (Core 𝓤 H A at-mem run) known to-core (and-then ! (load ! (from ! (stop !)) (look ! 21 refl)) (and-then ! (load ! (from ! (stop !)) (look ! 19 refl)) (and-then ! (load ! (from ! (stop !)) (look ! 17 refl)) (and-then ! (load ! (from ! (stop !)) (look ! 15 refl)) (and-then ! (load ! (from ! (stop !)) (look ! 13 refl)) (and-then ! (load ! (from ! (stop !)) (look ! 11 refl)) (and-then ! (load ! (from ! (stop !)) (look ! 5 refl)) (no-more !)))))))) (λ v.
-        use1 W (later (some (λ (r : Built). ((‵ (flft κ q) ⊛ ‵ ftrue) ⊛ ‵ (B.the-row .own r (v ∷ []))) ⊛ raw (ensured 𝓤 H A core.ended (core.clauses 𝓤 H A at-mem run) (κ, tt) x′ tt r)))) (id⊢ 𝓤 _) $ await ! tt $ pick ! (λ r.
+        use1 W (later (some (λ (r : BuildResult). ((‵ (flft κ q) ⊛ ‵ ftrue) ⊛ ‵ (B.the-row .own r (v ∷ []))) ⊛ raw (ensured 𝓤 H A core.ended (core.clauses 𝓤 H A at-mem run) (κ, tt) x′ tt r)))) (id⊢ 𝓤 _) $ await ! tt $ pick ! (λ r.
         split ! $ move ! (1 ∷ []) $ use1 W (raw (fact 𝓤 (Ran r))) (ran r) $ heard ! (Ran r) (λ e. split ! $ move ! (1 ∷ []) $
         peeks ! B.the-row (Is B.the-row) (shows 𝓤 H A B.the-row) r (v ∷ []) (λ is₀.
         rewrite ! 0 (λ (u : List Val). ‵ (B.the-row .own r u)) (LL.tells B.the-type B′.the-laws r (v ∷ []) is₀) refl $ peeks ! B.the-row (Is B.the-row) (shows 𝓤 H A B.the-row) r (LL.vals B.the-type B′.the-laws r) (λ is.

@@ -1,17 +1,17 @@
 use borrow.Author.Needs.{needs}
 use Rattle.foreign.proofs.Grouped.{judged}
-use Rattle.runtime.proofs.Carrying.{can-look, can-queue, carries-initial}
+use Rattle.runtime.proofs.Executing.{can-look, can-queue, carries-initial}
 use Rattle.runtime.proofs.add_initial.Statement.{statement}
 use Rattle.runtime.proofs.add_initial.Tie as tie
 
 is-foreign-requires : tie.Need-is-foreign-requires
 is-foreign-requires c κs = search needs
 
-foreign-state-requires : tie.Need-foreign-state-requires
-foreign-state-requires c κs = search judged depth 1
+refuse-foreign-requires : tie.Need-refuse-foreign-requires
+refuse-foreign-requires c κs = search judged depth 1
 
 returns : tie.Need-returns
-returns c = c .foreign-state .ensures _
+returns c = c .refuse-foreign .ensures _
 
 slice-aggregate-add-initial : tie.Need-slice-aggregate-add-initial
 slice-aggregate-add-initial c = search needs
@@ -27,7 +27,7 @@ add-initial-spec =
     tie.close
     (tie.spec
     is-foreign-requires
-    foreign-state-requires
+    refuse-foreign-requires
     returns
     slice-aggregate-add-initial
     add-initial-requires

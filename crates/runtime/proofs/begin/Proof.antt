@@ -1,17 +1,17 @@
 use borrow.Author.Needs.{needs}
 use Rattle.foreign.proofs.Grouped.{judged}
-use Rattle.runtime.proofs.Carrying.{carries-begin}
+use Rattle.runtime.proofs.Executing.{carries-begin}
 use Rattle.runtime.proofs.begin.Statement.{statement}
 use Rattle.runtime.proofs.begin.Tie as tie
 
 is-foreign-requires : tie.Need-is-foreign-requires
 is-foreign-requires c κs = search needs
 
-foreign-state-requires : tie.Need-foreign-state-requires
-foreign-state-requires c κs = search judged depth 1
+refuse-foreign-requires : tie.Need-refuse-foreign-requires
+refuse-foreign-requires c κs = search judged depth 1
 
 returns : tie.Need-returns
-returns c = c .foreign-state .ensures _
+returns c = c .refuse-foreign .ensures _
 
 begin-requires : tie.Need-begin-requires
 begin-requires c κs = search needs
@@ -22,4 +22,4 @@ returns-2 c = carries-begin _ (search judged depth 1) _ _ _ _ (search depth 0)
 pub begin-spec : {M : Type 1} → statement M
 begin-spec =
     tie.close
-    (tie.spec is-foreign-requires foreign-state-requires returns begin-requires returns-2)
+    (tie.spec is-foreign-requires refuse-foreign-requires returns begin-requires returns-2)

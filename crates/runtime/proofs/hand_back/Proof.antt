@@ -1,17 +1,17 @@
 use borrow.Author.Needs.{needs}
 use Rattle.foreign.proofs.Grouped.{judged}
-use Rattle.runtime.proofs.Carrying.{can-lend, carries-back}
+use Rattle.runtime.proofs.Executing.{can-lend, carries-back}
 use Rattle.runtime.proofs.hand_back.Statement.{statement}
 use Rattle.runtime.proofs.hand_back.Tie as tie
 
 is-foreign-requires : tie.Need-is-foreign-requires
 is-foreign-requires c κs = search needs
 
-foreign-state-requires : tie.Need-foreign-state-requires
-foreign-state-requires c κs = search judged depth 1
+refuse-foreign-requires : tie.Need-refuse-foreign-requires
+refuse-foreign-requires c κs = search judged depth 1
 
 returns : tie.Need-returns
-returns c = c .foreign-state .ensures _
+returns c = c .refuse-foreign .ensures _
 
 slice-aggregate-hand-back : tie.Need-slice-aggregate-hand-back
 slice-aggregate-hand-back c = search needs
@@ -33,7 +33,7 @@ hand-back-spec =
     tie.close
     (tie.spec
     is-foreign-requires
-    foreign-state-requires
+    refuse-foreign-requires
     returns
     slice-aggregate-hand-back
     slice-aggregate-hand-back-2

@@ -1,17 +1,17 @@
 use borrow.Author.Needs.{needs}
 use Rattle.foreign.proofs.Grouped.{judged}
-use Rattle.runtime.proofs.Carrying.{can-lend, carries-step}
+use Rattle.runtime.proofs.Executing.{can-lend, carries-step}
 use Rattle.runtime.proofs.step.Statement.{statement}
 use Rattle.runtime.proofs.step.Tie as tie
 
 is-foreign-requires : tie.Need-is-foreign-requires
 is-foreign-requires c κs = search needs
 
-foreign-state-requires : tie.Need-foreign-state-requires
-foreign-state-requires c κs = search judged depth 1
+refuse-foreign-requires : tie.Need-refuse-foreign-requires
+refuse-foreign-requires c κs = search judged depth 1
 
 returns : tie.Need-returns
-returns c = c .foreign-state .ensures _
+returns c = c .refuse-foreign .ensures _
 
 slice-aggregate-step : tie.Need-slice-aggregate-step
 slice-aggregate-step c = search needs
@@ -36,7 +36,7 @@ step-spec =
     tie.close
     (tie.spec
     is-foreign-requires
-    foreign-state-requires
+    refuse-foreign-requires
     returns
     slice-aggregate-step
     slice-aggregate-step-2

@@ -1,5 +1,5 @@
 //! The table that the program `ticks` prints, made with the original's own `SimTime` and
-//! `SimDuration` over u128. Its output is stored as crates/ticks/stdout.
+//! `SimDuration` over u128. Its output is stored as crates/ticks_main/stdout.
 use kairo_ecs_types::{SimDuration, SimTime};
 
 fn flag(yes: bool) -> &'static str {

@@ -1,2 +1,0 @@
-pub mod Aiming
-pub mod Early

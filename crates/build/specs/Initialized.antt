@@ -1,0 +1,24 @@
+-- What an accepted build makes, and what stands for nothing made.
+use mathlib.Core.Path.{_≡_}
+use mathlib.Core.Bool.{false}
+use mathlib.Core.List.{List}
+use Prim.Native.Nat.{ℕ, _*_}
+use lib.ListN.{length, drop}
+use Rattle.words.specs.Words.{zeroes}
+use Rattle.rules.specs.Build.{setup, built}
+use Rattle.state.specs.declared.Header.{Header}
+use Rattle.state.specs.declared.Runtime.{Runtime}
+use Rattle.state.specs.View.{view}
+
+-- "Once built, nothing is pending, ..": the header and the edges are those of the built state, where the horizons' words are zeros. The other words may be any.
+pub record Initializes (n L : ℕ) (sources counts destinations entry exit : List ℕ) (r : Header) : Type 0 where
+  pub state : (ids P B : List ℕ) (k : ℕ) → view r exit P (zeroes k) B ≡ built (setup n L ids sources counts destinations)
+  pub behind : drop (4 * length destinations) exit ≡ drop (4 * length destinations) entry
+
+-- All zeros: a process count of 0 is foreign.
+abbrev pub emptyHeader : Header
+emptyHeader = record { n = 0; lookahead = record { hi = 0; lo = 0 }; edges = 0; pending = 0; batch = 0; next = 0; gvt = record { hi = 0; lo = 0 }; stored = false; horizon = record { hi = 0; lo = 0 }; budget = 0; used = 0; initial = false; running = false; poisoned = false }
+
+-- "nothing made": the state that stands for none. Every later call refuses it (runtime/proofs/Empty).
+abbrev pub emptyRuntime : Runtime
+emptyRuntime = record { edges = zeroes 2048; pending = zeroes 4096; horizons = zeroes 128; batch = zeroes 512; head = emptyHeader }

@@ -1,0 +1,67 @@
+use native.Mathlib.Omega.{arith}
+use lib.ListN.{length-set}
+use borrow.Author.Needs.{needs}
+use Rattle.build_edges.proofs.Behind.{length-one, written-one}
+use Rattle.build_edges.proofs.put_edge.Statement.{statement}
+use Rattle.build_edges.proofs.put_edge.Tie as tie
+
+widen-requires : tie.Need-widen-requires
+widen-requires c κs = search needs
+
+mul-edges : tie.Need-mul-edges
+mul-edges c = search needs
+
+mul-edges-2 : tie.Need-mul-edges-2
+mul-edges-2 c = search needs
+
+slice-write-edges : tie.Need-slice-write-edges
+slice-write-edges c = search needs
+
+widen-requires-2 : tie.Need-widen-requires-2
+widen-requires-2 c κs = search needs
+
+mul-edges-3 : tie.Need-mul-edges-3
+mul-edges-3 c = search needs
+
+add-edges : tie.Need-add-edges
+add-edges c = search needs
+
+mul-edges-4 : tie.Need-mul-edges-4
+mul-edges-4 c = search needs
+
+slice-write-edges-2 : tie.Need-slice-write-edges-2
+slice-write-edges-2 c = simp length-set (omega arith)
+
+mul-put-tick : tie.Need-mul-put-tick
+mul-put-tick c = search needs
+
+add-put-tick : tie.Need-add-put-tick
+add-put-tick c = search needs
+
+put-tick-requires : tie.Need-put-tick-requires
+put-tick-requires c κs = simp length-set (omega arith)
+
+same-length : tie.Need-same-length
+same-length c = search length-one depth 1
+
+returns : tie.Need-returns
+returns c = search written-one depth 1
+
+pub put-edge-spec : {M : Type 1} → statement M
+put-edge-spec =
+    tie.close
+    (tie.spec
+    widen-requires
+    mul-edges
+    mul-edges-2
+    slice-write-edges
+    widen-requires-2
+    mul-edges-3
+    add-edges
+    mul-edges-4
+    slice-write-edges-2
+    mul-put-tick
+    add-put-tick
+    put-tick-requires
+    same-length
+    returns)

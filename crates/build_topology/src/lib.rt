@@ -1,0 +1,121 @@
+// The rows of a build as a host gives them: its checks 5 and 7 to 10. A row is a source and a
+// count, and the rows take their destinations in turn from one list.
+//
+// Each check is equal to its definition in rules/Build (specs/Checks.antt).
+use build_ids::rising;
+use build_ids::widen;
+use types::LpId;
+use types::MAX_EDGES;
+ghost use mathlib.Core.Path.{_≡_};
+ghost use lib.Dec.{eqb};
+ghost use Rattle.rules.specs.Base.{sum};
+ghost use Rattle.rules.specs.Build.{topologyRows};
+ghost use Rattle.types.specs.Value.{lpIdOf};
+ghost use Rattle.build_topology.specs.Checks.{RowsWellFormed, Unmarked, CheckedRow, RowsPassed, refusalOf, firstRefusal};
+
+// "512 edges".
+// 7 to 10, with the values that come with each.
+pub enum TopologyCheck {
+    Valid,
+    UnknownTopologySource(u64),
+    UnknownTopologyDestination(u64, u64),
+    SelfLoop(u64),
+    DuplicateNeighbor(u64, u64),
+}
+
+// 5: whether the counts add up to the total, by what is left of it. The sum may be above 2^64.
+pub fn sums_to(counts: &[u64], total: usize) -> bool
+    ensures { λ r. ⌜ r ≡ eqb (sum (now (counts .entry))) total ⌝ }
+{
+    let mut left = total as u64;
+    let mut i: usize = 0;
+    while i < counts.len() {
+        let k = counts[i];
+        if left < k {
+            return false;
+        }
+        left -= k;
+        i += 1;
+    }
+    left == 0
+}
+
+// 5: whether the lists are rows at all.
+pub fn rows_well_formed<'a>(sources: &'a [u32], counts: &'a [u64], destinations: &'a [u32]) -> bool
+    ensures { λ r. ⌜ RowsWellFormed (now (sources .entry)) (now (counts .entry)) (now (destinations .entry)) r ⌝ }
+{
+    if sources.len() != counts.len() {
+        return false;
+    }
+    if !rising(sources) {
+        return false;
+    }
+    if !sums_to(counts, destinations.len()) {
+        return false;
+    }
+    destinations.len() <= MAX_EDGES
+}
+
+// 8, 9 and 10 of one row. `marks[d] == stamp` says that d was met in this row; earlier rows had
+// lesser stamps, so that nothing is cleared between rows.
+fn check_row<'a>(
+    destinations: &'a [u32],
+    source: LpId,
+    n: u64,
+    marks: &mut [u64],
+    stamp: u64,
+) -> TopologyCheck
+    requires { ⌜ Unmarked n (now marks) stamp ⌝ }
+    ensures { λ r. ⌜ CheckedRow n (lpIdOf source) (now (destinations .entry)) (now (marks .exit)) stamp r ⌝ }
+{
+    let p = widen(source.0);
+    let mut i: usize = 0;
+    while i < destinations.len() {
+        let d = widen(destinations[i]);
+        if n <= d {
+            return TopologyCheck::UnknownTopologyDestination(p, d);
+        }
+        if d == p {
+            return TopologyCheck::SelfLoop(p);
+        }
+        let k = d as usize;
+        if marks[k] == stamp {
+            return TopologyCheck::DuplicateNeighbor(p, d);
+        }
+        marks[k] = stamp;
+        i += 1;
+    }
+    TopologyCheck::Valid
+}
+
+// 7 to 10, row by row.
+pub fn check_rows<'a>(
+    sources: &'a [u32],
+    counts: &'a [u64],
+    destinations: &'a [u32],
+    n: u64,
+) -> TopologyCheck
+    requires { ⌜ RowsPassed n (now sources) (now counts) (now destinations) ⌝ }
+    ensures { λ r. ⌜ refusalOf r ≡ firstRefusal (topologyRows n (now (sources .entry)) (now (counts .entry)) (now (destinations .entry))) ⌝ }
+{
+    let mut marks = [0u64; 64];
+    let mut at: usize = 0;
+    let mut i: usize = 0;
+    while i < sources.len() {
+        let source = sources[i];
+        let p = widen(source);
+        if n <= p {
+            return TopologyCheck::UnknownTopologySource(p);
+        }
+        let end = at + counts[i] as usize;
+        let stamp = i as u64 + 1;
+        let fault = check_row(&destinations[at..end], LpId(source), n, &mut marks, stamp);
+        if let TopologyCheck::Valid = fault {
+            at = end;
+            i += 1;
+        } else {
+            return fault;
+        }
+    }
+    TopologyCheck::Valid
+}

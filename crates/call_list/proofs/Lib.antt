@@ -1,0 +1,3 @@
+pub mod Executing
+pub mod Running
+pub mod Rehearsing

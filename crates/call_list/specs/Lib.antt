@@ -1,0 +1,3 @@
+pub mod Executes
+pub mod Runs
+pub mod Rehearses

@@ -1,0 +1,3 @@
+pub mod Links
+pub mod Demand3
+pub mod Theorem

@@ -1,0 +1,42 @@
+-- A reply is the words of its emissions, cut out.
+use mathlib.Core.Path.{_≡_}
+use mathlib.Core.List.{List}
+use Prim.Native.Nat.{ℕ, _+_, _*_, _/_, _-_, _≤_, _<_}
+use native.Mathlib.Omega.{arith}
+use lib.ListN.{length, getD, take, drop, length-take, length-drop}
+use lib.Seq.{getD-take}
+use borrow.Rule.Slice.PartMut.{midOf}
+use Rattle.words.proofs.Tab.{tab-cong}
+use Rattle.reply_words.specs.Emissions.{emissionOf, emissionIn, emissionAt, emissionsOf}
+
+module _ (w : List ℕ) (n i : ℕ) (l : i < n) where
+  word : (j : ℕ) → j < 8 → getD (take (8 * n) w) (8 * i + j) 0 ≡ getD w (8 * i + j) 0
+  word j h = getD-take (8 * n) w (8 * i + j) 0 (omega arith)
+
+  emission-cut : emissionAt (take (8 * n) w) i ≡ emissionAt w i
+  unfolding emissionAt emissionIn
+  emission-cut = λ k. emissionOf (record {
+    emitter = getD-take (8 * n) w (8 * i) 0 (omega arith) k;
+    source = word 1 (omega arith) k;
+    destination = word 2 (omega arith) k;
+    tick = record { hi = word 3 (omega arith) k; lo = word 4 (omega arith) k };
+    len = word 5 (omega arith) k;
+    «payload_hi» = word 6 (omega arith) k;
+    «payload_lo» = word 7 (omega arith) k;
+  })
+
+emissions-cut : (w : List ℕ) (n : ℕ) → emissionsOf n (take (8 * n) w) ≡ emissionsOf n w
+emissions-cut w n = tab-cong _ _ 0 n (λ k a b. emission-cut w n k (omega arith))
+
+module _ (w : List ℕ) (at : ℕ) where
+  abbrev n : ℕ
+  n = getD w (at + 2) 0
+
+  abbrev reply : List ℕ
+  reply = midOf (at + 3) (at + 3 + 8 * n - (at + 3)) w
+
+  pub reply-is : at + (3 + 8 * n) ≤ length w → emissionsOf (length reply / 8) reply ≡ emissionsOf n (drop (at + 3) w)
+  reply-is h = let e : at + 3 + 8 * n - (at + 3) ≡ 8 * n = omega arith in rw (e, cut-length) (emissions-cut (drop (at + 3) w) n)
+    where
+      cut-length : length (midOf (at + 3) (8 * n) w) / 8 ≡ n
+      cut-length = let z : length (midOf (at + 3) (8 * n) w) ≡ 8 * n = simp (length-take, length-drop) (omega arith) in omega arith

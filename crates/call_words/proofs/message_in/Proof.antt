@@ -1,0 +1,85 @@
+use borrow.Author.Needs.{needs}
+use Rattle.call_words.proofs.Decoding.{message-is}
+use Rattle.call_words.proofs.message_in.Statement.{statement}
+use Rattle.call_words.proofs.message_in.Tie as tie
+
+mul-lp-id-of : tie.Need-mul-lp-id-of
+mul-lp-id-of c = search needs
+
+shared-slice-read-lp-id-of : tie.Need-shared-slice-read-lp-id-of
+shared-slice-read-lp-id-of c = search needs
+
+lp-id-of-requires : tie.Need-lp-id-of-requires
+lp-id-of-requires c κs = search needs
+
+add-lp-id-of : tie.Need-add-lp-id-of
+add-lp-id-of c = search needs
+
+mul-lp-id-of-2 : tie.Need-mul-lp-id-of-2
+mul-lp-id-of-2 c = search needs
+
+shared-slice-read-lp-id-of-2 : tie.Need-shared-slice-read-lp-id-of-2
+shared-slice-read-lp-id-of-2 c = search needs
+
+lp-id-of-requires-2 : tie.Need-lp-id-of-requires-2
+lp-id-of-requires-2 c κs = search needs
+
+add-tick-in : tie.Need-add-tick-in
+add-tick-in c = search needs
+
+tick-in-requires : tie.Need-tick-in-requires
+tick-in-requires c κs = search needs
+
+add-t14 : tie.Need-add-t14
+add-t14 c = search needs
+
+mul-t15 : tie.Need-mul-t15
+mul-t15 c = search needs
+
+shared-slice-read-t17 : tie.Need-shared-slice-read-t17
+shared-slice-read-t17 c = search needs
+
+add-t18 : tie.Need-add-t18
+add-t18 c = search needs
+
+mul-t19 : tie.Need-mul-t19
+mul-t19 c = search needs
+
+shared-slice-read-t21 : tie.Need-shared-slice-read-t21
+shared-slice-read-t21 c = search needs
+
+add-t22 : tie.Need-add-t22
+add-t22 c = search needs
+
+mul-t23 : tie.Need-mul-t23
+mul-t23 c = search needs
+
+shared-slice-read-t25 : tie.Need-shared-slice-read-t25
+shared-slice-read-t25 c = search needs
+
+returns : tie.Need-returns
+returns c = search message-is depth 1
+
+pub message-in-spec : {M : Type 1} → statement M
+message-in-spec =
+    tie.close
+    (tie.spec
+    mul-lp-id-of
+    shared-slice-read-lp-id-of
+    lp-id-of-requires
+    add-lp-id-of
+    mul-lp-id-of-2
+    shared-slice-read-lp-id-of-2
+    lp-id-of-requires-2
+    add-tick-in
+    tick-in-requires
+    add-t14
+    mul-t15
+    shared-slice-read-t17
+    add-t18
+    mul-t19
+    shared-slice-read-t21
+    add-t22
+    mul-t23
+    shared-slice-read-t25
+    returns)

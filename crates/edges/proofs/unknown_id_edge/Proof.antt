@@ -1,0 +1,49 @@
+use borrow.Author.Needs.{needs}
+use borrow.Author.Tests.{le-leb, lt-leb}
+use Rattle.records.specs.Records.{edgeAt}
+use Rattle.edges.proofs.Tested.{or-first, or-second}
+use Rattle.edges.proofs.unknown_id_edge.Statement.{statement}
+use Rattle.edges.proofs.unknown_id_edge.Tie as tie
+
+mul-if1 : tie.Need-mul-if1
+mul-if1 c = search needs
+
+mul-if1-2 : tie.Need-mul-if1-2
+mul-if1-2 c = search needs
+
+shared-slice-read-if1 : tie.Need-shared-slice-read-if1
+shared-slice-read-if1 c = search needs
+
+mul-result : tie.Need-mul-result
+mul-result c = search needs
+
+add-result : tie.Need-add-result
+add-result c = search needs
+
+mul-result-2 : tie.Need-mul-result-2
+mul-result-2 c = search needs
+
+shared-slice-read-result : tie.Need-shared-slice-read-result
+shared-slice-read-result c = search needs
+
+returns : tie.Need-returns
+unfolding edgeAt
+returns c = search (or-first, le-leb) depth 1
+
+returns-2 : tie.Need-returns-2
+unfolding edgeAt
+returns-2 c = search (or-second, lt-leb) depth 1
+
+pub unknown-id-edge-spec : {M : Type 1} → statement M
+unknown-id-edge-spec =
+    tie.close
+    (tie.spec
+    mul-if1
+    mul-if1-2
+    shared-slice-read-if1
+    mul-result
+    add-result
+    mul-result-2
+    shared-slice-read-result
+    returns
+    returns-2)

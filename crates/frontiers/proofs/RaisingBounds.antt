@@ -1,0 +1,137 @@
+-- Bounds rise, from the last edge to the first.
+use mathlib.Core.Path.{_≡_, refl, sym, ap, _∙_}
+use mathlib.Core.Bool.{Bool, true, false}
+use mathlib.Core.List.{List, _∷_}
+use Prim.Native.Nat.{ℕ, zero, suc, _+_, _-_, _*_, _≤_, _<_, max}
+use native.Mathlib.Nat.{add-comm}
+use native.Mathlib.Omega.{arith}
+use lib.Dec.{ltb}
+use lib.ListN.{length, getD}
+use borrow.Author.Tests.{lt-ltb, le-ltb}
+use Rattle.types.specs.declared.SimTime.{SimTime}
+use Rattle.types.specs.Value.{ticksOf}
+use Rattle.words.specs.Words.{tab, tickAt, putTick, RaisesTick}
+use Rattle.words.proofs.Tab.{tab-cong, tab-step, tab-none, tab-whole, Pass, pass-start, pass-more, pass-end}
+use Rattle.words.proofs.Ticks.{by-rise}
+use Rattle.records.specs.Records.{edgeAt}
+use Rattle.records.proofs.Stored.{bound-same, bound-other}
+use Rattle.rules.specs.Base.{if_then_else_}
+use Rattle.rules.specs.State.{Edge, State}
+use Rattle.rules.specs.Step.{raisedEdges, countRaised}
+use Rattle.rules.proofs.Tests.{by-test, not-both}
+use Rattle.frontiers.specs.Tables.{tickOf}
+use Rattle.frontiers.specs.Rises.{raisedEdge, RaisedEdge, Bounds, RaisedEdges, Sources}
+
+abbrev oneIf : Bool → ℕ
+oneIf b = if b then 1 else 0
+
+one-true : (b : Bool) → b ≡ true → 1 ≡ oneIf b
+unfolding if_then_else_
+one-true b e = rw e
+
+one-false : (b : Bool) → b ≡ false → 0 ≡ oneIf b
+unfolding if_then_else_
+one-false b e = rw e
+
+-- An edge's source and bound where they stand.
+edge-from : (w : List ℕ) (i : ℕ) → edgeAt w i .source ≡ getD w (4 * i) 0
+unfolding edgeAt
+edge-from w i = refl
+
+edge-bound : (w : List ℕ) (i : ℕ) → edgeAt w i .bound ≡ tickAt w (4 * i + 2)
+unfolding edgeAt
+edge-bound w i = refl
+
+module _ (w bounds : List ℕ) (i : ℕ) (to : SimTime) (et : ticksOf to ≡ tickAt bounds (2 * getD w (4 * i) 0)) where
+  target : ticksOf to ≡ tickOf bounds (edgeAt w i .source)
+  target = et ∙ ap (λ (x : ℕ). tickAt bounds (2 * x)) (sym (edge-from w i))
+
+  edge-up : 4 * i + 4 ≤ length w → edgeAt w i .bound < ticksOf to → RaisedEdge i bounds w (putTick w (4 * i + 2) to) 1
+  unfolding raisedEdge
+  edge-up l h =
+      let same : edgeAt (putTick w (4 * i + 2) to) i ≡ record { source = edgeAt w i .source; destination = edgeAt w i .destination; bound = ticksOf to } = bound-same w i to l in
+      let goal : ticksOf to ≡ max (edgeAt w i .bound) (tickOf bounds (edgeAt w i .source)) = omega (arith, target) in
+      record {
+        here = same ∙ (λ j. record { source = edgeAt w i .source; destination = edgeAt w i .destination; bound = goal j });
+        others = λ k ne. bound-other w i k to ne;
+        counted = one-true _ (ap (λ (e : Edge). ltb (edgeAt w i .bound) (e .bound)) same ∙ lt-ltb (edgeAt w i .bound) (ticksOf to) h);
+      }
+
+  edge-kept : ticksOf to ≤ edgeAt w i .bound → RaisedEdge i bounds w w 0
+  unfolding raisedEdge
+  edge-kept h =
+      let goal : edgeAt w i .bound ≡ max (edgeAt w i .bound) (tickOf bounds (edgeAt w i .source)) = omega (arith, target) in
+      record {
+        here = λ j. record { source = edgeAt w i .source; destination = edgeAt w i .destination; bound = goal j };
+        others = λ k ne. refl;
+        counted = one-false _ (le-ltb (edgeAt w i .bound) (edgeAt w i .bound) (omega arith));
+      }
+
+  module _ (u : List ℕ) (r : Bool) (l : 4 * i + 4 ≤ length w) (s : RaisesTick w (4 * i + 2) to u r) where
+    pub edge-rises : r ≡ true → RaisedEdge i bounds w u 1
+    edge-rises = by-rise w (4 * i + 2) to u r s (λ v b. b ≡ true → RaisedEdge i bounds w v 1) (λ h _. edge-up l (rw (edge-bound w i) h)) (λ h e. not-both e refl)
+
+    pub edge-stays : r ≡ false → RaisedEdge i bounds w u 0
+    edge-stays = by-rise w (4 * i + 2) to u r s (λ v b. b ≡ false → RaisedEdge i bounds w v 0) (λ h e. not-both refl e) (λ h _. edge-kept (rw (edge-bound w i) h))
+
+one-most : (b : Bool) → oneIf b ≤ 1
+one-most b = by-test (λ (x : ℕ). x ≤ 1) (λ e. omega arith) (λ e. omega arith)
+
+pub edge-most : (i : ℕ) (bounds w u : List ℕ) (r : ℕ) → RaisedEdge i bounds w u r → r ≤ 1
+edge-most i bounds w u r l = rw (l .counted) (one-most _)
+
+count-step : (f g : ℕ → Edge) (i m : ℕ) → 0 < i → i ≤ m → countRaised (tab f (i - 1) (m - (i - 1))) (tab g (i - 1) (m - (i - 1))) ≡ (if ltb (f (i - 1) .bound) (g (i - 1) .bound) then 1 else 0) + countRaised (tab f i (m - i)) (tab g i (m - i))
+unfolding countRaised
+count-step f g i m h l = rw (tab-step f i m h l, tab-step g i m h l)
+
+edges-tab : (n : ℕ) (s : State) (H : ℕ) (bounds : List ℕ) → Bounds n s H bounds → (f : ℕ → Edge) (i m : ℕ) → ((k : ℕ) → i ≤ k → k < i + m → f k .source < n) → raisedEdges s H (tab f i m) ≡ tab (λ k. raisedEdge bounds (f k)) i m
+unfolding Bounds raisedEdges tab raisedEdge
+edges-tab n s H bounds a f i zero h = refl
+edges-tab n s H bounds a f i (suc m) h =
+    rw (a (f i .source) (h i (omega arith) (omega arith)), edges-tab n s H bounds a f (suc i) m (λ k x y. h k (omega arith) (omega arith)))
+
+-- The bounds of the first m edges rise, from the last to the first: those from i on are raised.
+module _ (m : ℕ) (bounds w₀ : List ℕ) where
+  abbrev pub liftedAt : ℕ → Edge → Edge
+  liftedAt k e = raisedEdge bounds e
+
+  pub record Lifting (i : ℕ) (w : List ℕ) (r : ℕ) : Type 0 where
+    pub within : i ≤ m
+    pub room : r + i ≤ m
+    pub pass : Pass edgeAt liftedAt m w₀ i w
+    pub counted : r ≡ countRaised (tab (edgeAt w₀) i (m - i)) (tab (edgeAt w) i (m - i))
+
+  pub lifting-start : Lifting m w₀ 0
+  unfolding countRaised
+  lifting-start = record {
+    within = omega arith;
+    room = omega arith;
+    pass = pass-start edgeAt liftedAt m w₀;
+    counted = rw (tab-none (edgeAt w₀) m m (omega arith));
+  }
+
+  pub source-at : (i : ℕ) (w : List ℕ) (r : ℕ) → 0 < i → Lifting i w r → Sources 64 m w₀ → getD w (4 * (i - 1)) 0 < 64
+  unfolding Sources
+  source-at i w r h f s =
+      let e : edgeAt w (i - 1) .source ≡ edgeAt w₀ (i - 1) .source = ap (λ (x : Edge). x .source) (f .pass .ahead (i - 1) (omega arith)) in
+      rw (← edge-from w (i - 1), e) (s (i - 1) (omega (arith, f .within)))
+
+  pub lifting-more : (i : ℕ) (w u : List ℕ) (r q : ℕ) → 0 < i → Lifting i w r → RaisedEdge (i - 1) bounds w u q → Lifting (i - 1) u (r + q)
+  lifting-more i w u r q h f l =
+      let same : tab (edgeAt u) i (m - i) ≡ tab (edgeAt w) i (m - i) = tab-cong _ _ i (m - i) (λ k x y. l .others k (λ z. omega arith)) in
+      let e : edgeAt w (i - 1) ≡ edgeAt w₀ (i - 1) = f .pass .ahead (i - 1) (omega arith) in
+      record {
+        within = omega (arith, f .within);
+        room = omega (arith, f .room, edge-most (i - 1) bounds w u q l);
+        pass = pass-more edgeAt liftedAt m i w₀ w u h (f .pass) (l .here) (l .others);
+        counted = add-comm r q ∙ rw (f .counted, l .counted, e, ← same) (sym (count-step (edgeAt w₀) (edgeAt u) i m h (f .within)));
+      }
+
+  pub lifting-end : (i : ℕ) (w : List ℕ) (r : ℕ) → i ≤ 0 → Lifting i w r → RaisedEdges m bounds w₀ w r
+  unfolding Sources
+  lifting-end i w r o f =
+      let z : i ≡ 0 = omega arith in
+      record {
+        edges = λ n s H c a. pass-end edgeAt liftedAt m i w₀ w z (f .pass) ∙ sym (edges-tab n s H bounds a (edgeAt w₀) 0 m (λ k x y. c k (omega arith)));
+        counted = f .counted ∙ rw (tab-whole (edgeAt w₀) i m z, tab-whole (edgeAt w) i m z);
+      }

@@ -1,0 +1,163 @@
+// The core of hand back: what every reply is checked by, the check of a reply in words, and what
+// becomes of its round.
+use hand_back_check::ReplyCheck;
+use hand_back_enqueue::Tail;
+use state::Answer;
+use state::CoreResult;
+use state::Counters;
+use state::Header;
+ghost use mathlib.Core.Path.{_≡_};
+ghost use Prim.Native.Nat.{_/_};
+ghost use lib.ListN.{length};
+ghost use Rattle.words.specs.Words.{zeroes};
+ghost use Rattle.reply_words.specs.Emissions.{emissionsOf};
+ghost use Rattle.state.specs.ValidArrays.{ValidArrays};
+ghost use Rattle.hand_back_commit.specs.HandsBack.{HandsBack};
+ghost use Rattle.hand_back_commit.specs.Commits.{InHand};
+ghost use Rattle.hand_back.specs.ReplyChecks.{repliedOf, EarlyRows, Ready, Begins, Reviewed, asGivenTo, Commits};
+
+// Rows 12 and 25.
+fn refusal(head: Header) -> Answer
+    ensures { λ r. ⌜ EarlyRows head r ⌝ }
+{
+    if head.poisoned {
+        return Answer::Poisoned;
+    }
+    if head.batch == 0 {
+        return Answer::NoBatch;
+    }
+    Answer::Accepted
+}
+
+// Rows 12 and 25, and 26 of the mask; where none refuses, the tables for the emissions are made.
+pub fn begin_check<'a>(
+    head: Header,
+    edges: &'a [u64],
+    batch: &'a [u64],
+    mask: u64,
+    routes: &mut [u64],
+    places: &mut [u64],
+) -> ReplyCheck
+    requires { ⌜ Ready head (now edges) (now batch) × (now routes ≡ zeroes 64) × (now places ≡ zeroes 64) ⌝ }
+    ensures { λ r. ⌜ Begins head (now (edges .entry)) (now (batch .entry)) mask r (now (routes .exit)) (now (places .exit)) ⌝ }
+{
+    let failed = hand_back_check::first_failed(batch, head.batch, mask);
+    let start = hand_back_check::start(mask, failed);
+    let answer = refusal(head);
+    if !hand_back_commit::is_accepted(answer) {
+        return hand_back_check::refuse(start, answer);
+    }
+    reply_words::find_places(batch, head.batch, places);
+    if reply_words::failed_not_in_batch(mask, places) {
+        return hand_back_check::refuse(start, Answer::MalformedReply);
+    }
+    edges::find_routes(edges, head.edges, routes);
+    start
+}
+
+// The check of a reply in words.
+fn check_reply<'a>(
+    head: Header,
+    edges: &'a [u64],
+    horizons: &'a [u64],
+    batch: &'a [u64],
+    mask: u64,
+    reply: &'a [u64],
+) -> ReplyCheck
+    requires { ⌜ Ready head (now edges) (now batch) × (length (now horizons) ≡ 128) × (length (now batch) ≡ 512) ⌝ }
+    ensures { λ r. ⌜ Reviewed head (now (edges .entry)) (now (horizons .entry)) (now (batch .entry)) mask (repliedOf (now (reply .entry))) r ⌝ }
+{
+    let mut routes = [0u64; 64];
+    let mut places = [0u64; 64];
+    let start = begin_check(head, edges, batch, mask, &mut routes, &mut places);
+    hand_back_check::check_words(
+        head,
+        &routes,
+        &places,
+        horizons,
+        batch,
+        start,
+        reply,
+        reply.len() / 8,
+    )
+}
+
+// The refusals that leave the state as given.
+fn as_given(head: Header, counters: Counters, check: ReplyCheck) -> CoreResult
+    ensures { λ r. ⌜ r ≡ asGivenTo head counters check ⌝ }
+{
+    let verdict = check.outcome;
+    let answer = verdict.answer;
+    CoreResult {
+        answer: answer,
+        head: head,
+        counters: counters,
+    }
+}
+
+// A reply that is not malformed: its round is queued and ended, or lost.
+fn commit<'a>(
+    head: Header,
+    counters: Counters,
+    edges: &'a [u64],
+    pending: &mut [u64],
+    horizons: &mut [u64],
+    batch: &mut [u64],
+    check: ReplyCheck,
+    reply: &'a [u64],
+) -> CoreResult
+    requires { ⌜ InHand head (now edges) (now pending) (now horizons) (now batch) ⌝ }
+    ensures { λ r. ⌜ Commits head counters (now (edges .entry)) (now (pending .entry)) (now (horizons .entry)) (now (batch .entry)) check (repliedOf (now (reply .entry))) r (now (pending .exit)) (now (horizons .exit)) (now (batch .exit)) ⌝ }
+{
+    let emitted = reply.len() / 8;
+    let verdict = hand_back_commit::final_check(check, head.next, head.pending, emitted);
+    if verdict.passed {
+        let tail = Tail {
+            count: head.pending,
+            next: head.next,
+        };
+        hand_back_enqueue::enqueue_words(pending, tail, reply, emitted);
+        return hand_back_commit::commit_round(
+            head,
+            counters,
+            edges,
+            pending,
+            horizons,
+            batch,
+            check.remote,
+            emitted,
+        );
+    }
+    let answer = verdict.answer;
+    hand_back_end::poison(answer, head, counters, batch)
+}
+
+// The reply has eight words to an emission; words that make no whole one are passed over.
+pub fn hand_back<'a>(
+    head: Header,
+    counters: Counters,
+    edges: &'a [u64],
+    pending: &mut [u64],
+    horizons: &mut [u64],
+    batch: &mut [u64],
+    mask: u64,
+    reply: &'a [u64],
+) -> CoreResult
+    requires { ⌜ ValidArrays head (now edges) (now pending) (now horizons) (now batch) ⌝ }
+    ensures { λ r. ⌜ HandsBack head counters (now (edges .entry)) (now (pending .entry)) (now (horizons .entry)) (now (batch .entry)) mask (emissionsOf (length (now (reply .entry)) / 8) (now (reply .entry))) r (now (pending .exit)) (now (horizons .exit)) (now (batch .exit)) ⌝ }
+{
+    let check = check_reply(head, edges, horizons, batch, mask, reply);
+    if !check.going {
+        return as_given(head, counters, check);
+    }
+    commit(
+        head,
+        counters,
+        edges,
+        pending,
+        horizons,
+        batch,
+        check,
+        reply,
+    )
+}

@@ -1,0 +1,139 @@
+-- A reply is checked from its first emission to its last.
+use mathlib.Core.Path.{_≡_, refl, sym, ap, subst, _∙_}
+use mathlib.Core.Bool.{Bool, true, false, not}
+use mathlib.Core.List.{List, [], _∷_, _++_}
+use Prim.Native.Nat.{ℕ, _+_, _*_, _≤_, _<_}
+use native.Mathlib.Omega.{arith}
+use Rattle.words.specs.Words.{tab}
+use Rattle.words.proofs.Tab.{tab-push}
+use Rattle.rules.specs.Base.{count}
+use Rattle.rules.specs.State.{Event}
+use Rattle.rules.specs.HandBack as Rule
+use Rattle.rules.proofs.Tests.{by-bool, not-both, not-true, not-false}
+use Rattle.records.specs.Records.{edgesOf, eventsOf}
+use Rattle.edges.specs.Routes.{Routes}
+use Rattle.reply_words.specs.declared.Emission.{Emission}
+use Rattle.reply_words.specs.Emissions.{emissionOf, emissionIn, emissionAt, emissionsOf}
+use Rattle.reply_words.specs.Replies.{malformedEmission, anyMalformedEmission}
+use Rattle.hand_back_emission.specs.Checks.{ChecksRows}
+use Rattle.hand_back_emission.proofs.Checks.{nothing}
+use Rattle.state.specs.declared.Header.{Header}
+use Rattle.state.specs.View.{view}
+use Rattle.hand_back_check.specs.declared.ReplyCheck.{ReplyCheck}
+use Rattle.hand_back_check.specs.EmissionRows.{lastOf, rowsUpTo}
+use Rattle.hand_back_check.specs.Checks.{Checkable, startOf, NextResult, ChecksNext, Checks, CheckStarted, Checked}
+use Rattle.hand_back_check.proofs.Snoc.{last-snoc, ill-snoc, remote-snoc, rows-snoc}
+
+not-true-of : {x : Bool} → not x ≡ false → x ≡ true
+not-true-of {x} h = not-false x h
+
+not-false-of : {x : Bool} → not x ≡ true → x ≡ false
+not-false-of {x} h = not-true x h
+
+module _ (h : Header) (R T Z B : List ℕ) (a : ReplyCheck) (d : CheckStarted h R T Z B a) where
+  abbrev q : List Event
+  q = eventsOf (h .batch) B
+
+  pub checked-start : Checked h R T Z B a [] a
+  unfolding lastOf count rowsUpTo anyMalformedEmission
+  checked-start = record {
+    stopped = λ _. refl;
+    same-mask = refl;
+    same-failed = refl;
+    formed = λ g. g;
+    refused = λ g k. not-both g k;
+    last = λ g. ap (λ (x : ReplyCheck). x .last) (d .started g);
+    remote = λ g. ap (λ (x : ReplyCheck). x .remote) (d .started g);
+    judged = λ g X Q W w. rw (ap (λ (x : ReplyCheck). x .outcome) (d .started g)) nothing;
+  }
+
+  module _ (xs : List Rule.Emission) (b : ReplyCheck) (t : Checked h R T Z B a xs b) where
+    pub was-going : b .going ≡ true → a .going ≡ true
+    was-going g = by-bool (a .going) (λ k. k) (λ k. not-both g (ap (λ (x : ReplyCheck). x .going) (t .stopped k) ∙ k))
+
+    pub still-checkable : b .going ≡ true → Checkable h R T Z B
+    still-checkable g = d .checkable (was-going g)
+
+    -- One emission more.
+    module _ (e : Emission) (r : ReplyCheck) (s : Checks h R T Z B b e r) where
+      abbrev x : Rule.Emission
+      x = emissionOf e
+
+      -- It was refused before.
+      module _ (g : b .going ≡ false) where
+        same : r ≡ b
+        same = s .stopped g
+
+        more-stopped : Checked h R T Z B a (xs ++ (x ∷ [])) r
+        more-stopped = record {
+          stopped = λ k. same ∙ t .stopped k;
+          same-mask = ap (λ (y : ReplyCheck). y .mask) same ∙ t .same-mask;
+          same-failed = ap (λ (y : ReplyCheck). y .failed) same ∙ t .same-failed;
+          formed = λ k.
+              let z : anyMalformedEmission q (a .mask) 0 xs ≡ true = not-true-of (sym (t .formed k) ∙ g) in
+              rw (same, g, ill-snoc q (a .mask) 0 xs x, z);
+          refused = λ k _. rw same (t .refused k g);
+          last = λ k. not-both k (rw same g);
+          remote = λ k. not-both k (rw same g);
+          judged = λ k. not-both k (rw same g);
+        }
+
+      -- It is checked.
+      module _ (g : b .going ≡ true) where
+        j : ChecksNext h R T Z B b e r
+        j = s .next g
+
+        k : a .going ≡ true
+        k = was-going g
+
+        none-before : anyMalformedEmission q (a .mask) 0 xs ≡ false
+        none-before = not-false-of (sym (t .formed k) ∙ g)
+
+        formed-more : r .going ≡ not (anyMalformedEmission q (a .mask) 0 (xs ++ (x ∷ [])))
+        formed-more = rw (ill-snoc q (a .mask) 0 xs x, none-before, ← t .last g, ← t .same-mask) (j .formed)
+
+        judged-more : r .going ≡ true → (X Q W : List ℕ) → Routes (edgesOf (h .edges) X) R → ChecksRows (rowsUpTo (view h X Q Z W) q (a .failed) (xs ++ (x ∷ []))) (r .outcome)
+        unfolding NextResult
+        judged-more y X Q W w =
+            rw (rows-snoc (view h X Q Z W) q (a .failed) xs x)
+            (rw (t .same-failed) at (j .judged y X Q W w (rowsUpTo (view h X Q Z W) q (a .failed) xs) (t .judged g X Q W w)))
+
+        more-going : Checked h R T Z B a (xs ++ (x ∷ [])) r
+        more-going = record {
+          stopped = λ y. not-both k y;
+          same-mask = j .same-mask ∙ t .same-mask;
+          same-failed = j .same-failed ∙ t .same-failed;
+          formed = λ _. formed-more;
+          refused = λ _ y. j .refused y;
+          last = λ y. j .last y ∙ sym (last-snoc 0 xs x);
+          remote = λ y. j .remote y ∙ rw (t .remote g) (sym (remote-snoc xs x));
+          judged = judged-more;
+        }
+
+      pub checked-more : Checked h R T Z B a (xs ++ (x ∷ [])) r
+      checked-more = by-bool (b .going) more-going more-stopped
+
+-- The first i emissions of a reply in words are checked.
+module _ (h : Header) (R T Z B : List ℕ) (a : ReplyCheck) (w : List ℕ) where
+  pub record Checking (n i : ℕ) (b : ReplyCheck) : Type 0 where
+    pub within : i ≤ n
+    pub checked : Checked h R T Z B a (emissionsOf i w) b
+
+  module _ (d : CheckStarted h R T Z B a) where
+    pub checking-start : (n : ℕ) → Checking n 0 a
+    unfolding tab
+    checking-start n = record { within = omega arith; checked = checked-start h R T Z B a d }
+
+    module _ (n i : ℕ) (b : ReplyCheck) (t : Checking n i b) where
+      pub checking-asks : b .going ≡ true → Checkable h R T Z B
+      checking-asks g = still-checkable h R T Z B a d (emissionsOf i w) b (t .checked) g
+
+      pub checking-more : i < n → (e : Emission) → e ≡ emissionIn w (8 * i) → (r : ReplyCheck) → Checks h R T Z B b e r → Checking n (i + 1) r
+      unfolding emissionAt
+      checking-more l e y r s = record {
+        within = omega arith;
+        checked = rw (tab-push (emissionAt w) i) (subst (λ (z : Emission). Checked h R T Z B a (emissionsOf i w ++ (emissionOf z ∷ [])) r) y (checked-more h R T Z B a d (emissionsOf i w) b (t .checked) e r s));
+      }
+
+  pub checking-end : (n i : ℕ) (b : ReplyCheck) → n ≤ i → Checking n i b → Checked h R T Z B a (emissionsOf n w) b
+  checking-end n i b l t = let e : i ≡ n = omega (arith, t .within) in rw e at (t .checked)

@@ -1,0 +1,2 @@
+pub mod EmissionRows
+pub mod Checks

@@ -1,0 +1,2 @@
+pub mod HandsBack
+pub mod Commits

@@ -1,0 +1,98 @@
+// Rows 28 to 33 of hand back, of one emission.
+use reply_words::Emission;
+use state::Answer;
+use state::Header;
+use types::Added;
+use types::SimDuration;
+use types::SimTime;
+ghost use mathlib.Core.Path.{_≡_};
+ghost use Prim.Native.Nat.{_*_, _<_};
+ghost use lib.ListN.{length};
+ghost use Rattle.types.specs.Value.{ticksOf, durationOf, IsSum};
+ghost use Rattle.words.specs.Words.{tickAt};
+ghost use Rattle.rules.specs.HandBack.{minimum};
+ghost use Rattle.reply_words.specs.Emissions.{emissionOf};
+ghost use Rattle.hand_back_emission.specs.Checks.{ChecksRows, tickRows, CanCheck, ChecksEmission};
+
+// Whether nothing is refused; where something is, `answer` is the refusal.
+pub struct CheckResult {
+    pub passed: bool,
+    pub answer: Answer,
+}
+
+// "The minimum tick is the event's tick for an emission to oneself, else that tick + L."
+fn minimum_tick(e: Emission, time: SimTime, lookahead: SimDuration) -> Added
+    ensures { λ r. ⌜ IsSum (minimum (durationOf lookahead) (e .emitter) (ticksOf time) (emissionOf e .message)) r ⌝ }
+{
+    if e.destination == e.emitter {
+        return Added::Sum(time);
+    }
+    time.checked_add(lookahead)
+}
+
+// 32 and 33 of an emission whose minimum is `least`.
+fn check_tick(horizons: &[u64], e: Emission, time: SimTime, least: SimTime) -> CheckResult
+    requires { ⌜ (length (now horizons) ≡ 128) × (e .destination < 64) ⌝ }
+    ensures { λ r. ⌜ ChecksRows (tickRows (emissionOf e) (ticksOf time) (ticksOf least) (tickAt (now (horizons .entry)) (2 * e .destination))) r ⌝ }
+{
+    let tick = e.tick;
+    let local = words::tick_in(horizons, 2 * e.destination as usize);
+    if tick.lt(least) {
+        return CheckResult {
+            passed: false,
+            answer: Answer::OutboundLookaheadViolation(e.emitter, time, tick, least),
+        };
+    }
+    if tick.lt(local) {
+        return CheckResult {
+            passed: false,
+            answer: Answer::Straggler(e.destination, tick, local),
+        };
+    }
+    CheckResult {
+        passed: true,
+        answer: Answer::Accepted,
+    }
+}
+
+// 28 to 33 of one emission of the process e.emitter, whose event has the tick `time`; `routes` is the
+// table that `edges` finds.
+pub fn check_emission<'a>(
+    head: Header,
+    routes: &'a [u64],
+    horizons: &'a [u64],
+    e: Emission,
+    time: SimTime,
+) -> CheckResult
+    requires { ⌜ CanCheck head (now routes) (now horizons) × (e .emitter < 64) ⌝ }
+    ensures { λ r. ⌜ ChecksEmission head (now (routes .entry)) (now (horizons .entry)) e time r ⌝ }
+{
+    if e.source != e.emitter {
+        return CheckResult {
+            passed: false,
+            answer: Answer::OutboundSourceMismatch(e.emitter, e.source),
+        };
+    }
+    let n = head.n as u64;
+    if n <= e.destination {
+        return CheckResult {
+            passed: false,
+            answer: Answer::UnknownOutboundDestination(e.destination),
+        };
+    }
+    if !edges::has_route_in(routes, e.emitter, e.destination) {
+        return CheckResult {
+            passed: false,
+            answer: Answer::OutboundRouteMissing(e.emitter, e.destination),
+        };
+    }
+    let lookahead = head.lookahead;
+    let least = minimum_tick(e, time, lookahead);
+    match least {
+        Added::Sum(t) => check_tick(horizons, e, time, t),
+        Added::Overflow => CheckResult {
+            passed: false,
+            answer: Answer::LookaheadOverflow(e.emitter, time, lookahead),
+        },
+    }
+}

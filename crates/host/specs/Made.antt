@@ -1,8 +1,0 @@
--- What a host's build gives, as the record of which `Builds` speaks.
-use Rattle.state.specs.declared.Counters.{Counters}
-use Rattle.runtime.specs.declared.Built.{Built}
-use Rattle.host.specs.declared.Made.{Made}
-
--- The answer and the runtime made are returned, the counters are those left in the loan.
-abbrev pub builtOf : Made → Counters → Built
-builtOf r c = record { answer = r .answer; state = r .state; counters = c }

@@ -1,0 +1,70 @@
+-- What each return of the parts before the first pass gives.
+use mathlib.Core.Path.{_≡_, refl, sym, ap, _∙_}
+use mathlib.Core.Bool.{Bool, true, false}
+use mathlib.Core.List.{List}
+use Prim.Native.Nat.{ℕ}
+use lib.ListN.{length}
+use Rattle.rules.specs.HandBack as Rule
+use Rattle.rules.specs.Calls.{HandBack}
+use Rattle.rules.specs.Foreign.{foreign}
+use Rattle.rules.proofs.Tests.{not-both}
+use Rattle.hand_back_check.specs.declared.ReplyCheck.{ReplyCheck}
+use Rattle.hand_back_check.specs.Checks.{refusedWith, CheckStarted}
+use Rattle.hand_back_commit.specs.HandsBack.{HandsBack}
+use Rattle.hand_back.specs.ReplyChecks.{asGivenTo, Ready, Begins}
+use Rattle.hand_back.proofs.ReplyChecking as Review
+use Rattle.state.specs.declared.Header.{Header}
+use Rattle.state.specs.declared.Runtime.{Runtime}
+use Rattle.state.specs.declared.Counters.{Counters}
+use Rattle.state.specs.declared.Answer.the-variants as P
+use Rattle.state.specs.ValidArrays.{ValidArrays}
+use Rattle.state.specs.View.{viewOf}
+use Rattle.foreign.specs.Tests.{IsForeign}
+use Rattle.foreign.proofs.Grouped.{judged}
+use Rattle.runtime.specs.Executes.{Executes}
+use Rattle.runtime.proofs.Executing.{carries-foreign, carries-back}
+use Rattle.host_hand_back.specs.Passes.{tablesOf, Sizes, routesIn, placesIn, horizonsIn, batchIn}
+use Rattle.host_hand_back.specs.Parts.{runtimeOf, openedOf, Tabled, Opens}
+use Rattle.host_hand_back.proofs.Filling.{routes-there, places-there, horizons-there, batch-there}
+
+-- The words for the first pass.
+pub tabled : (h : Header) (E Z B : List ℕ) (mask : ℕ) (a : ReplyCheck) (R T D : List ℕ) → Sizes R T Z B → D ≡ tablesOf R T Z B → Begins h E B mask a R T → Tabled h E Z B mask a D
+tabled h E Z B mask a R T D s e b = rw e (record {
+  begins = rw (routes-there R T Z B s, places-there R T Z B s) b;
+  horizons-are = horizons-there R T Z B s;
+  batch-is = batch-there R T Z B s;
+})
+
+-- The refusals that leave the state as given, from the core's promise.
+pub unmoved-back : (s : Runtime) (c : Counters) (mask : ℕ) (xs : List Rule.Emission) (a : ReplyCheck) → HandsBack (s .head) c (s .edges) (s .pending) (s .horizons) (s .batch) mask xs (asGivenTo (s .head) c a) (s .pending) (s .horizons) (s .batch)
+    → Executes (HandBack mask xs) s c (a .outcome .answer) s c
+unmoved-back s c mask xs a h = carries-back s c (asGivenTo (s .head) c a) (s .pending) (s .horizons) (s .batch) mask xs h
+
+module _ (h : Header) (E Q Z B : List ℕ) (mask : ℕ) (x : Bool) (i : IsForeign h E Q B x) where
+  abbrev s : Runtime
+  s = runtimeOf h E Q Z B
+
+  pub opens-foreign : x ≡ true → (b a : ReplyCheck) (D : List ℕ) → a ≡ refusedWith b P.ForeignState → Opens s mask (openedOf h a D)
+  opens-foreign t b a D e = rw e (record {
+    same-head = refl;
+    begun = record { started = λ g. not-both g refl; checkable = λ g. not-both g refl };
+    refused = λ _ xs c. carries-foreign s c (judged s x true i t) (HandBack mask xs);
+    lent = λ g. not-both g refl;
+    tabled = λ g. not-both g refl;
+  })
+
+  module _ (f : x ≡ false) (e : length E ≡ 2048) (q : length Q ≡ 4096) (z : length Z ≡ 128) (b : length B ≡ 512) where
+    lent : ValidArrays h E Q Z B
+    lent = record { edge-words = e; pending-words = q; horizon-words = z; batch-words = b; passes = judged s x false i f }
+
+    pub ready : Ready h E B
+    ready = Review.ready h E Q Z B lent
+
+    pub opens-tabled : (a : ReplyCheck) (D : List ℕ) → Tabled h E Z B mask a D → Opens s mask (openedOf h a D)
+    opens-tabled a D t = record {
+      same-head = refl;
+      begun = rw (t .horizons-are, t .batch-is) (Review.begun h E Z B mask a (routesIn D) (placesIn D) ready z b (t .begins));
+      refused = λ g xs c. unmoved-back s c mask xs a (t .begins .refused g c xs Q Z lent);
+      lent = λ _. lent;
+      tabled = λ _. t;
+    }

@@ -1,0 +1,59 @@
+-- The two passes over emission records, emission by emission.
+use mathlib.Core.Path.{_≡_, refl, sym, ap, subst, _∙_}
+use mathlib.Core.Bool.{true, false}
+use mathlib.Core.List.{List, [], _∷_, _++_}
+use Prim.Native.Nat.{ℕ, _+_, _≤_, _<_}
+use native.Mathlib.Omega.{arith}
+use lib.ListN.{length, length-map}
+use Rattle.rules.proofs.Tests.{not-both}
+use Rattle.reply_words.specs.declared.Emission.{Emission}
+use Rattle.reply_words.specs.Emissions.{emissionOf}
+use Rattle.hand_back_enqueue.specs.declared.Tail.{Tail}
+use Rattle.hand_back_enqueue.specs.Enqueued.{Enqueued}
+use Rattle.hand_back_enqueue.specs.Enqueued as Enqueue
+use Rattle.hand_back_enqueue.proofs.Enqueueing.{map-snoc, enqueued-none, enqueued-asks, enqueued-more}
+use Rattle.hand_back_check.specs.Checks.{Checks, Checked}
+use Rattle.hand_back_check.proofs.Checking.{checked-start, still-checkable, checked-more}
+use Rattle.host_hand_back.specs.declared.Scan.{Scan}
+use Rattle.host_hand_back.specs.declared.Admission.{Admission}
+use Rattle.host_hand_back.specs.Passes.{replyOf, routesIn, placesIn, horizonsIn, batchIn, Checkable, ChecksNext, Begun, Scanned, Enqueueable, EnqueuesNext, Admitted, Queued}
+
+-- The first pass.
+module _ (D : List ℕ) (a : Scan) (d : Begun D a) where
+  pub scanned-start : Scanned D a [] a
+  scanned-start = record { same-head = refl; checked = checked-start (a .head) (routesIn D) (placesIn D) (horizonsIn D) (batchIn D) (a .check) d }
+
+  module _ (ys : List Emission) (b : Scan) (t : Scanned D a ys b) where
+    pub scanned-asks : Checkable D b
+    scanned-asks g = rw (t .same-head) (still-checkable (a .head) (routesIn D) (placesIn D) (horizonsIn D) (batchIn D) (a .check) d (replyOf ys) (b .check) (t .checked) g)
+
+    pub scanned-more : (e : Emission) (r : Scan) → ChecksNext D b e r → Scanned D a (ys ++ (e ∷ [])) r
+    scanned-more e r s = record {
+      same-head = s .same-head ∙ t .same-head;
+      checked = rw (map-snoc emissionOf ys e) (checked-more (a .head) (routesIn D) (placesIn D) (horizonsIn D) (batchIn D) (a .check) d (replyOf ys) (b .check) (t .checked) e (r .check) (rw (t .same-head) at (s .checks)));
+    }
+
+-- The second pass.
+module _ (w : List ℕ) (a : Admission) where
+  pub queued-start : Queued w a [] w a
+  queued-start = record { same-admitted = refl; same-verdict = refl; queued = λ _. enqueued-none (a .tail) w }
+
+  module _ (ys : List Emission) (u : List ℕ) (b : Admission) (t : Queued w a ys u b) where
+    pub queued-asks : (zs : List Emission) → Admitted w a zs → length ys < length zs → Enqueueable u b
+    queued-asks zs d l g =
+        let y = sym (t .same-admitted) ∙ g in
+        enqueued-asks (a .tail) w (replyOf ys) (b .tail) u (t .queued y) (length zs) (d y) (rw (length-map ys emissionOf) l)
+
+    pub queued-more : (e : Emission) (v : List ℕ) (r : Admission) → EnqueuesNext u b e v r → Queued w a (ys ++ (e ∷ [])) v r
+    queued-more e v r s = record {
+      same-admitted = s .same-admitted ∙ t .same-admitted;
+      same-verdict = s .same-verdict ∙ t .same-verdict;
+      queued = λ g. rw (map-snoc emissionOf ys e) (enqueued-more (a .tail) w (replyOf ys) (b .tail) u (t .queued g) (emissionOf e) (r .tail) v (s .queued (t .same-admitted ∙ g)));
+    }
+
+-- What each return of one turn of it gives.
+pub turned-away : (w : List ℕ) (a : Admission) (e : Emission) → a .admitted ≡ false → EnqueuesNext w a e w a
+turned-away w a e f = record { same-admitted = refl; same-verdict = refl; queued = λ g. not-both g f }
+
+pub taken-in : (w : List ℕ) (a : Admission) (e : Emission) → a .admitted ≡ true → (t : Tail) (u : List ℕ) → Enqueued (a .tail) (emissionOf e ∷ []) w t u → EnqueuesNext w a e u (record { admitted = true; outcome = a .outcome; tail = t })
+taken-in w a e g t u q = record { same-admitted = sym g; same-verdict = refl; queued = λ _. q }

@@ -1,0 +1,81 @@
+-- The two passes over a reply of emission records: the words that they read and write, and how far each has come.
+use mathlib.Core.Path.{_≡_}
+use mathlib.Core.Bool.{true}
+use mathlib.Core.List.{List, [], _∷_, _++_, map}
+use Prim.Native.Nat.{ℕ, _+_}
+use lib.ListN.{length, take, drop}
+use Rattle.rules.specs.HandBack as Rule
+use Rattle.reply_words.specs.declared.Emission.{Emission}
+use Rattle.reply_words.specs.Emissions.{emissionOf}
+use Rattle.hand_back_enqueue.specs.Enqueued as Enqueue
+use Rattle.hand_back_enqueue.specs.Enqueued.{Enqueued}
+use Rattle.hand_back_check.specs.Checks as Check
+use Rattle.hand_back_check.specs.Checks.{Checks, Checked}
+use Rattle.host_hand_back.specs.declared.Scan.{Scan}
+use Rattle.host_hand_back.specs.declared.Opened.{Opened}
+use Rattle.host_hand_back.specs.declared.Admission.{Admission}
+use Rattle.host_hand_back.specs.declared.Queue.{Queue}
+
+-- The emissions of a reply of records, as the rules have them.
+abbrev pub replyOf : List Emission → List Rule.Emission
+replyOf ys = map emissionOf ys
+
+-- The words of `from` stand in u behind the first words of w.
+unfoldable pub Copied : ℕ → List ℕ → List ℕ → List ℕ → Type 0
+Copied at from w u = take (at + length from) u ≡ take at w ++ from
+
+pub record Sizes (routes places horizons batch : List ℕ) : Type 0 where
+  pub route-words : length routes ≡ 64
+  pub place-words : length places ≡ 64
+  pub horizon-words : length horizons ≡ 128
+  pub batch-words : length batch ≡ 512
+
+-- The words that the first pass reads, and their parts.
+abbrev pub tablesOf : List ℕ → List ℕ → List ℕ → List ℕ → List ℕ
+tablesOf routes places horizons batch = ((routes ++ places) ++ horizons) ++ batch
+
+abbrev pub routesIn : List ℕ → List ℕ
+routesIn D = take 64 (drop 0 D)
+
+abbrev pub placesIn : List ℕ → List ℕ
+placesIn D = take 64 (drop 64 D)
+
+abbrev pub horizonsIn : List ℕ → List ℕ
+horizonsIn D = take 128 (drop 128 D)
+
+abbrev pub batchIn : List ℕ → List ℕ
+batchIn D = take 512 (drop 256 D)
+
+-- What checking an emission asks of the words D, and what it leaves.
+abbrev pub Checkable : List ℕ → Scan → Type 0
+Checkable D a = a .check .going ≡ true → Check.Checkable (a .head) (routesIn D) (placesIn D) (horizonsIn D) (batchIn D)
+
+pub record ChecksNext (D : List ℕ) (a : Scan) (e : Emission) (r : Scan) : Type 0 where
+  pub same-head : r .head ≡ a .head
+  pub checks : Checks (a .head) (routesIn D) (placesIn D) (horizonsIn D) (batchIn D) (a .check) e (r .check)
+
+-- The same of all emissions.
+abbrev pub Begun : List ℕ → Scan → Type 0
+Begun D a = Check.CheckStarted (a .head) (routesIn D) (placesIn D) (horizonsIn D) (batchIn D) (a .check)
+
+pub record Scanned (D : List ℕ) (a : Scan) (ys : List Emission) (r : Scan) : Type 0 where
+  pub same-head : r .head ≡ a .head
+  pub checked : Checked (a .head) (routesIn D) (placesIn D) (horizonsIn D) (batchIn D) (a .check) (replyOf ys) (r .check)
+
+-- What queueing an emission asks of the pending words, and what it leaves.
+abbrev pub Enqueueable : List ℕ → Admission → Type 0
+Enqueueable w a = a .admitted ≡ true → Enqueue.Enqueueable (a .tail) 1 w
+
+pub record EnqueuesNext (w : List ℕ) (a : Admission) (e : Emission) (u : List ℕ) (r : Admission) : Type 0 where
+  pub same-admitted : r .admitted ≡ a .admitted
+  pub same-verdict : r .outcome ≡ a .outcome
+  pub queued : a .admitted ≡ true → Enqueued (a .tail) (emissionOf e ∷ []) w (r .tail) u
+
+-- The same of all emissions.
+abbrev pub Admitted : List ℕ → Admission → List Emission → Type 0
+Admitted w a ys = a .admitted ≡ true → Enqueue.Enqueueable (a .tail) (length ys) w
+
+pub record Queued (w : List ℕ) (a : Admission) (ys : List Emission) (u : List ℕ) (r : Admission) : Type 0 where
+  pub same-admitted : r .admitted ≡ a .admitted
+  pub same-verdict : r .outcome ≡ a .outcome
+  pub queued : a .admitted ≡ true → Enqueued (a .tail) (replyOf ys) w (r .tail) u

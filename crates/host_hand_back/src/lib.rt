@@ -1,0 +1,317 @@
+// Hand back of a reply that comes as emission records: what stands before, between and behind the two
+// passes over them. The prover's own walk takes no slice of structs, so the two loops are proved by
+// hand; each calls a covered step for each emission and does nothing else.
+use foreign::is_foreign;
+use hand_back_check::ReplyCheck;
+use hand_back_emission::CheckResult;
+use hand_back_enqueue::Tail;
+use reply_words::Emission;
+use runtime::CallResult;
+use state::Answer;
+use state::Counters;
+use state::Header;
+use state::Runtime;
+use types::MAX_PROCESSES;
+ghost use mathlib.Core.Path.{_≡_};
+ghost use Prim.Native.Nat.{_+_, _*_, _≤_};
+ghost use lib.ListN.{length};
+ghost use Rattle.hand_back_commit.specs.Commits.{InHand, Fits};
+ghost use Rattle.hand_back.specs.ReplyChecks.{Ready};
+ghost use Rattle.host_hand_back.specs.Passes.{tablesOf, Copied, Sizes, Checkable, ChecksNext, Enqueueable, EnqueuesNext};
+ghost use Rattle.host_hand_back.specs.Parts.{runtimeOf, openedOf, Tabled, Opens, Judges, Admits, givenBack, CommitsTo, LosesTo, Closable, Closes};
+
+// How far the first pass is, with the header of the state that the reply is for.
+pub struct Scan {
+    pub head: Header,
+    pub check: ReplyCheck,
+}
+
+// What the first pass reads, and where it starts: the routes from word 0 on, the place of each process's
+// event from 64, the local horizons from 128 and the events in hand from 256.
+pub struct Opened {
+    pub words: [u64; 768],
+    pub scan: Scan,
+}
+
+// Whether the round is queued, by what all checks say; and where the next event goes.
+pub struct Admission {
+    pub admitted: bool,
+    pub outcome: CheckResult,
+    pub tail: Tail,
+}
+
+// The pending words, to which the second pass adds.
+pub struct Queue {
+    pub words: [u64; 4096],
+    pub admission: Admission,
+}
+
+// The words of `from` go to those of w from `at` on.
+fn copy_at(w: &mut [u64], at: usize, from: &[u64])
+    requires { ⌜ at + length (now from) ≤ length (now w) ⌝ }
+    ensures { λ _. ⌜ Copied at (now (from .entry)) (now (w .entry)) (now (w .exit)) ⌝ }
+{
+    let mut i: usize = 0;
+    while i < from.len() {
+        w[at + i] = from[i];
+        i += 1;
+    }
+}
+
+fn fill<'a>(
+    words: &mut [u64],
+    routes: &'a [u64],
+    places: &'a [u64],
+    horizons: &'a [u64],
+    batch: &'a [u64],
+)
+    requires { ⌜ (length (now words) ≡ 768) × Sizes (now routes) (now places) (now horizons) (now batch) ⌝ }
+    ensures { λ _. ⌜ now (words .exit) ≡ tablesOf (now (routes .entry)) (now (places .entry)) (now (horizons .entry)) (now (batch .entry)) ⌝ }
+{
+    copy_at(words, 0, routes);
+    copy_at(words, 64, places);
+    copy_at(words, 128, horizons);
+    copy_at(words, 256, batch);
+}
+
+// 12, 25 and 26 of the mask; and the words that the first pass reads.
+fn make_tables<'a>(
+    head: Header,
+    edges: &'a [u64],
+    horizons: &'a [u64],
+    batch: &'a [u64],
+    mask: u64,
+    words: &mut [u64],
+) -> ReplyCheck
+    requires { ⌜ Ready head (now edges) (now batch) × (length (now horizons) ≡ 128) × (length (now batch) ≡ 512) × (length (now words) ≡ 768) ⌝ }
+    ensures { λ r. ⌜ Tabled head (now (edges .entry)) (now (horizons .entry)) (now (batch .entry)) mask r (now (words .exit)) ⌝ }
+{
+    let mut routes = [0u64; 64];
+    let mut places = [0u64; 64];
+    let start = hand_back::begin_check(head, edges, batch, mask, &mut routes, &mut places);
+    fill(words, &routes, &places, horizons, batch);
+    start
+}
+
+// 11, 12, 25 and 26 of the mask. Where one of them refuses, no emission is looked at.
+fn begin<'a>(
+    head: Header,
+    edges: &'a [u64],
+    pending: &'a [u64],
+    horizons: &'a [u64],
+    batch: &'a [u64],
+    mask: u64,
+    words: &mut [u64],
+) -> ReplyCheck
+    requires { ⌜ (length (now edges) ≡ 2048) × (length (now pending) ≡ 4096) × (length (now horizons) ≡ 128) × (length (now batch) ≡ 512) × (length (now words) ≡ 768) ⌝ }
+    ensures { λ r. ⌜ Opens (runtimeOf head (now (edges .entry)) (now (pending .entry)) (now (horizons .entry)) (now (batch .entry))) mask (openedOf head r (now (words .exit))) ⌝ }
+{
+    if is_foreign(head, edges, pending, batch) {
+        let start = hand_back_check::start(mask, MAX_PROCESSES);
+        return hand_back_check::refuse(start, Answer::ForeignState);
+    }
+    make_tables(head, edges, horizons, batch, mask, words)
+}
+
+pub fn open(state: Runtime, mask: u64) -> Opened
+    ensures { λ r. ⌜ Opens state mask r ⌝ }
+{
+    let head = state.head;
+    let mut words = [0u64; 768];
+    let check = begin(
+        head,
+        &state.edges,
+        &state.pending,
+        &state.horizons,
+        &state.batch,
+        mask,
+        &mut words,
+    );
+    Opened {
+        words: words,
+        scan: Scan {
+            head: head,
+            check: check,
+        },
+    }
+}
+
+// One emission of the first pass.
+fn check_in(words: &[u64], a: Scan, e: Emission) -> Scan
+    requires { ⌜ (length (now words) ≡ 768) × Checkable (now words) a ⌝ }
+    ensures { λ r. ⌜ ChecksNext (now (words .entry)) a e r ⌝ }
+{
+    let routes = &words[0..64];
+    let places = &words[64..128];
+    let horizons = &words[128..256];
+    let batch = &words[256..768];
+    let head = a.head;
+    let so_far = a.check;
+    let check = hand_back_check::check(head, routes, places, horizons, batch, so_far, e);
+    Scan {
+        head: head,
+        check: check,
+    }
+}
+
+pub fn check_next(words: &[u64; 768], a: Scan, e: Emission) -> Scan
+    requires { ⌜ Checkable (now words) a ⌝ }
+    ensures { λ r. ⌜ ChecksNext (now (words .entry)) a e r ⌝ }
+{
+    check_in(words, a, e)
+}
+
+// 27 to 33, 19 and 18 of a reply of so many emissions.
+fn admission_of(check: ReplyCheck, head: Header, emitted: usize) -> Admission
+    ensures { λ r. ⌜ Judges check head emitted r ⌝ }
+{
+    let tail = Tail {
+        count: head.pending,
+        next: head.next,
+    };
+    let so_far = check.outcome;
+    if !check.going {
+        return Admission {
+            admitted: false,
+            outcome: so_far,
+            tail: tail,
+        };
+    }
+    let verdict = hand_back_commit::final_check(check, head.next, head.pending, emitted);
+    Admission {
+        admitted: verdict.passed,
+        outcome: verdict,
+        tail: tail,
+    }
+}
+
+// What all checks say, and the pending words for the second pass.
+pub fn admit(state: Runtime, scan: Scan, emitted: usize) -> Queue
+    ensures { λ r. ⌜ Admits state scan emitted r ⌝ }
+{
+    let check = scan.check;
+    let head = state.head;
+    let pending = state.pending;
+    Queue {
+        words: pending,
+        admission: admission_of(check, head, emitted),
+    }
+}
+
+// One emission of the second pass; nothing is queued of a round that is not admitted.
+fn enqueue_in(words: &mut [u64], a: Admission, e: Emission) -> Admission
+    requires { ⌜ Enqueueable (now words) a ⌝ }
+    ensures { λ r. ⌜ EnqueuesNext (now (words .entry)) a e (now (words .exit)) r ⌝ }
+{
+    if !a.admitted {
+        return a;
+    }
+    let tail = a.tail;
+    let verdict = a.outcome;
+    let next = hand_back_enqueue::enqueue(words, tail, e);
+    Admission {
+        admitted: true,
+        outcome: verdict,
+        tail: next,
+    }
+}
+
+pub fn enqueue_next(words: &mut [u64; 4096], a: Admission, e: Emission) -> Admission
+    requires { ⌜ Enqueueable (now words) a ⌝ }
+    ensures { λ r. ⌜ EnqueuesNext (now (words .entry)) a e (now (words .exit)) r ⌝ }
+{
+    enqueue_in(words, a, e)
+}
+
+// The refusals that leave the state as given.
+fn as_given(state: Runtime, counters: Counters, check: ReplyCheck) -> CallResult
+    ensures { λ r. ⌜ r ≡ givenBack state counters check ⌝ }
+{
+    let verdict = check.outcome;
+    let answer = verdict.answer;
+    CallResult {
+        answer: answer,
+        state: state,
+        counters: counters,
+    }
+}
+
+// The round is ended, its emissions queued in the words of q.
+fn commit(
+    state: Runtime,
+    counters: Counters,
+    check: ReplyCheck,
+    q: Queue,
+    emitted: usize,
+) -> CallResult
+    requires { ⌜ InHand (state .head) (state .edges) (state .pending) (state .horizons) (state .batch) × Fits (state .head .next) (state .head .pending) emitted ⌝ }
+    ensures { λ r. ⌜ CommitsTo state counters check q emitted r ⌝ }
+{
+    let head = state.head;
+    let mut horizons = state.horizons;
+    let mut batch = state.batch;
+    let ended = hand_back_commit::commit_round(
+        head,
+        counters,
+        &state.edges,
+        &q.words,
+        &mut horizons,
+        &mut batch,
+        check.remote,
+        emitted,
+    );
+    let answer = ended.answer;
+    let left = ended.head;
+    let counted = ended.counters;
+    let edges = state.edges;
+    let pending = q.words;
+    CallResult {
+        answer: answer,
+        state: Runtime {
+            edges: edges,
+            pending: pending,
+            horizons: horizons,
+            batch: batch,
+            head: left,
+        },
+        counters: counted,
+    }
+}
+
+// The round is lost.
+fn poison(mut state: Runtime, counters: Counters, answer: Answer) -> CallResult
+    requires { ⌜ 8 * state .head .batch ≤ length (state .batch) ⌝ }
+    ensures { λ r. ⌜ LosesTo state counters answer r ⌝ }
+{
+    let head = state.head;
+    let mut batch = state.batch;
+    let lost = hand_back_end::poison(answer, head, counters, &mut batch);
+    let refusal = lost.answer;
+    let left = lost.head;
+    let counted = lost.counters;
+    state.batch = batch;
+    state.head = left;
+    CallResult {
+        answer: refusal,
+        state: state,
+        counters: counted,
+    }
+}
+
+// What becomes of a reply whose emissions were passed twice.
+pub fn close(state: Runtime, counters: Counters, scan: Scan, q: Queue, emitted: usize) -> CallResult
+    requires { ⌜ Closable state scan q emitted ⌝ }
+    ensures { λ r. ⌜ Closes state counters scan q emitted r ⌝ }
+{
+    let check = scan.check;
+    if !check.going {
+        return as_given(state, counters, check);
+    }
+    let admission = q.admission;
+    let verdict = admission.outcome;
+    if verdict.passed {
+        return commit(state, counters, check, q, emitted);
+    }
+    let answer = verdict.answer;
+    poison(state, counters, answer)
+}

@@ -1,4 +1,0 @@
-pub mod Verdicts
-pub mod Rows
-pub mod InHand
-pub mod Wired

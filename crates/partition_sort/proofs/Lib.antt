@@ -1,0 +1,5 @@
+pub mod Pairs
+pub mod Order
+pub mod Merging
+pub mod Halves
+pub mod Duplicates

@@ -1,9 +1,0 @@
-use mathlib.Core.Path.{refl}
-use Rattle.queueing.proofs.record_of.Statement.{statement}
-use Rattle.queueing.proofs.record_of.Tie as tie
-
-returns : tie.Need-returns
-returns c = refl
-
-pub record-of-spec : {M : Type 1} → statement M
-record-of-spec = tie.close (tie.spec returns)

@@ -1,4 +1,0 @@
-pub mod Table
-pub mod Judged
-pub mod Passing
-pub mod Samples

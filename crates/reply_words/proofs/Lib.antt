@@ -1,0 +1,4 @@
+pub mod Table
+pub mod MalformedReply
+pub mod Passing
+pub mod Samples

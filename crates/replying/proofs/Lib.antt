@@ -1,3 +1,0 @@
-pub mod Lent
-pub mod Turns
-pub mod Passed

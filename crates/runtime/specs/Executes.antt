@@ -1,0 +1,17 @@
+-- What every call on a runtime promises: document 01's rule, on every state, foreign ones among them.
+use mathlib.Core.Path.{_≡_}
+use mathlib.Core.Bool.{true}
+use Rattle.rules.specs.Rows.{out}
+use Rattle.rules.specs.Calls.{Call, rule}
+use Rattle.state.specs.declared.Runtime.{Runtime}
+use Rattle.state.specs.declared.Counters.{Counters}
+use Rattle.state.specs.declared.Answer.{Answer}
+use Rattle.state.specs.View.{viewOf, countersOf, answerOf}
+use Rattle.state.specs.AsGiven.{asGiven}
+
+-- From the runtime s and the counters c, the call k answers a and leaves the runtime t and the counters d.
+pub record Executes (k : Call) (s : Runtime) (c : Counters) (a : Answer) (t : Runtime) (d : Counters) : Type 0 where
+  -- Answer, state and counters are what the rule gives.
+  pub gives : out (answerOf (viewOf t .batch) a) (viewOf t) (countersOf d) ≡ rule (viewOf s) (countersOf c) k
+  -- "state as given": the whole of it, words that no rule reads among them.
+  pub kept : asGiven k (answerOf (viewOf t .batch) a) ≡ true → (t ≡ s) × (d ≡ c)

@@ -1,4 +1,0 @@
-pub mod Next
-pub mod One
-pub mod Snoc
-pub mod Taking

@@ -1,3 +1,0 @@
-pub mod Desks
-pub mod Sifts
-pub mod Taken

@@ -1,5 +1,0 @@
-pub mod Pairs
-pub mod Order
-pub mod Merging
-pub mod Halves
-pub mod Twins

@@ -1,0 +1,3 @@
+pub mod WithoutBatch
+pub mod Handing
+pub mod Stepping

@@ -1,0 +1,12 @@
+use Rattle.step.proofs.Stepping.{refusing, nothing}
+use Rattle.step.proofs.refused.Statement.{statement}
+use Rattle.step.proofs.refused.Tie as tie
+
+returns : tie.Need-returns
+returns c = refusing _ _ (c .if1 .taken)
+
+returns-2 : tie.Need-returns-2
+returns-2 c = nothing _ _ (c .before .pre) (c .if1 .left)
+
+pub refused-spec : {M : Type 1} → statement M
+refused-spec = tie.close (tie.spec returns returns-2)

@@ -1,0 +1,2 @@
+pub mod WithoutBatch
+pub mod Steps

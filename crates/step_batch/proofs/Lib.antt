@@ -1,0 +1,3 @@
+pub mod ScanRule
+pub mod Turns
+pub mod Taken

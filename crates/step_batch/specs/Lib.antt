@@ -1,0 +1,2 @@
+pub mod ScanRule
+pub mod Scan
