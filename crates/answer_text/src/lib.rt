@@ -1,5 +1,6 @@
 // The lines of docs/CALLS.md: what a call answered, and everything that document 01 compares after
 // it. A state's counts may be anything: no more is printed than an array holds.
+use answer_values::Values;
 use build::BuildAnswer;
 use reads::ReadAnswer;
 use state::Answer;
@@ -7,7 +8,7 @@ use state::Counters;
 use state::Header;
 use state::Runtime;
 use text_output::ROOM;
-use types::SimDuration;
+use types::LpId;
 use types::SimTime;
 ghost use Prim.Native.Nat.{_≤_};
 ghost use lib.ListN.{length};
@@ -24,26 +25,28 @@ const EVENT: usize = 8;
 // The digits of a word of payload, two for each byte.
 const DIGITS: usize = 16;
 
-// Codes of the other first words of a line, above every number of a refusal.
-const ACCEPTED: u64 = 100;
+// The names of answers, by their places.
+const ACCEPTED: usize = 0;
 
-const BATCH: u64 = 101;
+const BATCH: usize = 1;
 
-const ADVANCED: u64 = 102;
+const ADVANCED: usize = 2;
 
-const FINISHED: u64 = 103;
+const FINISHED: usize = 3;
 
-const COMMITTED: u64 = 104;
+const COMMITTED: usize = 4;
 
-const GVT: u64 = 105;
+const GVT: usize = 5;
 
-const COUNTERS: u64 = 106;
+const COUNTERS: usize = 6;
 
-const PENDING: u64 = 107;
+const PENDING: usize = 7;
 
-const EARLIEST: u64 = 108;
+const EARLIEST: usize = 8;
 
-const REFUSED: usize = 9;
+const GIVEN: usize = 9;
+
+const REFUSED: usize = 10;
 
 fn min(a: usize, b: usize) -> usize
     ensures { λ r. ⌜ (r ≤ a) × (r ≤ b) ⌝ }
@@ -51,186 +54,42 @@ fn min(a: usize, b: usize) -> usize
     if a < b { a } else { b }
 }
 
-// The names in the order of their numbers, nine letters each.
+// The names in the order of their places, nine letters each.
 fn put_name(out: &mut [u8; ROOM], at: usize, k: usize) -> usize {
     let names =
-        *b"accepted batch    advanced finished committedgvt      counters pending  earliest refused  ";
+        *b"accepted batch    advanced finished committedgvt      counters pending  earliest given    refused  ";
     let from = 9 * min(k, REFUSED);
     let end = bytes::scan::find(&names, from, from + 9, b' ');
     text_output::put(out, at, &names[from..end])
 }
 
-// What a line begins with: a name, or "refused" and its number.
-fn put_first(out: &mut [u8; ROOM], at: usize, number: u64) -> usize {
-    if ACCEPTED <= number {
-        return put_name(out, at, (number - ACCEPTED) as usize);
+// What a line begins with: a name, or "refused" and the number.
+fn put_first(out: &mut [u8; ROOM], number: u64, name: usize) -> usize {
+    if number == 0 {
+        return put_name(out, 0, name);
     }
-    let end = put_name(out, at, REFUSED);
+    let end = put_name(out, 0, REFUSED);
     text_output::put_next(out, end, b' ', number)
 }
 
-// Values of an answer: so many of `width` words each, one for a number and two for a tick.
-struct Values {
-    width: usize,
-    count: usize,
-    w: [u64; 7],
-}
-
-// At most two numbers.
-fn numbers(count: usize, a: u64, b: u64) -> Values {
-    let w = [a, b, 0, 0, 0, 0, 0];
-    Values {
-        width: NUMBER,
-        count: count,
-        w: w,
-    }
-}
-
-// At most three ticks.
-fn ticks(count: usize, a: SimTime, b: SimTime, c: SimTime) -> Values {
-    let w = [a.hi, a.lo, b.hi, b.lo, c.hi, c.lo, 0];
-    Values {
-        width: TICK,
-        count: count,
-        w: w,
-    }
-}
-
-// The seven counters, the last of which is the state's.
-fn counted(counters: Counters, used: u64) -> Values {
-    let w = [
-        counters.processed_events,
-        counters.emitted_events,
-        counters.remote_events,
-        counters.rounds,
-        counters.null_messages,
-        counters.worker_count,
-        used,
-    ];
-    Values {
-        width: NUMBER,
-        count: 7,
-        w: w,
-    }
-}
-
-// The tick so long after tick 0.
-fn tick_after(d: SimDuration) -> SimTime {
-    SimTime { hi: d.hi, lo: d.lo }
-}
-
-// The numbers of answers, and the values that they return in the order of document 01's table: numbers,
-// then ticks.
-fn build_number(answer: BuildAnswer) -> u64 {
-    match answer {
-        BuildAnswer::Accepted => ACCEPTED,
-        BuildAnswer::InvalidPartitionCount(_) => 1,
-        BuildAnswer::InvalidLookahead => 2,
-        BuildAnswer::UnorderedProcesses => 3,
-        BuildAnswer::ProcessSetMismatch(_, _) => 4,
-        BuildAnswer::MalformedTopology => 5,
-        BuildAnswer::MissingTopologyEntry(_) => 6,
-        BuildAnswer::UnknownTopologySource(_) => 7,
-        BuildAnswer::UnknownTopologyDestination(_, _) => 8,
-        BuildAnswer::SelfLoop(_) => 9,
-        BuildAnswer::DuplicateNeighbor(_, _) => 10,
-    }
-}
-
-fn build_values(answer: BuildAnswer) -> Values {
-    match answer {
-        BuildAnswer::InvalidPartitionCount(a)
-        | BuildAnswer::MissingTopologyEntry(a)
-        | BuildAnswer::UnknownTopologySource(a)
-        | BuildAnswer::SelfLoop(a) => numbers(1, a, 0),
-        BuildAnswer::ProcessSetMismatch(a, b)
-        | BuildAnswer::UnknownTopologyDestination(a, b)
-        | BuildAnswer::DuplicateNeighbor(a, b) => numbers(2, a, b),
-        _ => numbers(0, 0, 0),
-    }
-}
-
-fn number_of(answer: Answer) -> u64 {
+fn name_of(answer: Answer) -> usize {
     match answer {
         Answer::Accepted => ACCEPTED,
         Answer::Batch(_) => BATCH,
         Answer::Advanced(_) => ADVANCED,
         Answer::Finished(_) => FINISHED,
         Answer::Committed(_) => COMMITTED,
-        Answer::ForeignState => 11,
-        Answer::Poisoned => 12,
-        Answer::InitialEventsAlreadyClosed => 13,
-        Answer::UnknownInitialSource(_) => 14,
-        Answer::UnknownInitialDestination(_) => 15,
-        Answer::InitialRouteMissing(_, _) => 16,
-        Answer::PayloadTooLong(_) => 17,
-        Answer::QueueFull => 18,
-        Answer::EventSequenceOverflow => 19,
-        Answer::RunOpen => 20,
-        Answer::HorizonRegression(_, _) => 21,
-        Answer::HorizonOverflow(_) => 22,
-        Answer::NothingToStep => 23,
-        Answer::EventBudgetExceeded(_) => 24,
-        Answer::NoBatch => 25,
-        Answer::MalformedReply => 26,
-        Answer::HandlerFailed(_) => 27,
-        Answer::OutboundSourceMismatch(_, _) => 28,
-        Answer::UnknownOutboundDestination(_) => 29,
-        Answer::OutboundRouteMissing(_, _) => 30,
-        Answer::LookaheadOverflow(_, _, _) => 31,
-        Answer::OutboundLookaheadViolation(_, _, _, _) => 32,
-        Answer::Straggler(_, _, _) => 33,
+        _ => REFUSED,
     }
 }
 
-fn numbers_of(answer: Answer) -> Values {
-    match answer {
-        Answer::UnknownInitialSource(a)
-        | Answer::UnknownInitialDestination(a)
-        | Answer::PayloadTooLong(a)
-        | Answer::EventBudgetExceeded(a)
-        | Answer::HandlerFailed(a)
-        | Answer::UnknownOutboundDestination(a)
-        | Answer::LookaheadOverflow(a, _, _)
-        | Answer::OutboundLookaheadViolation(a, _, _, _)
-        | Answer::Straggler(a, _, _) => numbers(1, a, 0),
-        Answer::InitialRouteMissing(a, b)
-        | Answer::OutboundSourceMismatch(a, b)
-        | Answer::OutboundRouteMissing(a, b) => numbers(2, a, b),
-        _ => numbers(0, 0, 0),
-    }
-}
-
-fn ticks_of(answer: Answer) -> Values {
-    match answer {
-        Answer::Batch(a)
-        | Answer::Advanced(a)
-        | Answer::Finished(a)
-        | Answer::Committed(a)
-        | Answer::HorizonOverflow(a) => ticks(1, a, a, a),
-        Answer::HorizonRegression(a, b) | Answer::Straggler(_, a, b) => ticks(2, a, b, b),
-        Answer::LookaheadOverflow(_, a, d) => ticks(2, a, tick_after(d), a),
-        Answer::OutboundLookaheadViolation(_, a, b, c) => ticks(3, a, b, c),
-        _ => numbers(0, 0, 0),
-    }
-}
-
-fn read_number(answer: ReadAnswer) -> u64 {
+fn read_name(answer: ReadAnswer) -> usize {
     match answer {
         ReadAnswer::Gvt(_) => GVT,
         ReadAnswer::Counted(_, _) => COUNTERS,
         ReadAnswer::Pending(_) => PENDING,
         ReadAnswer::Earliest(_) => EARLIEST,
-        ReadAnswer::ForeignState => 11,
-    }
-}
-
-fn read_values(answer: ReadAnswer) -> Values {
-    match answer {
-        ReadAnswer::Gvt(t) | ReadAnswer::Earliest(t) => ticks(1, t, t, t),
-        ReadAnswer::Counted(counters, used) => counted(counters, used),
-        ReadAnswer::Pending(count) => numbers(1, count, 0),
-        ReadAnswer::ForeignState => numbers(0, 0, 0),
+        ReadAnswer::ForeignState => REFUSED,
     }
 }
 
@@ -303,8 +162,67 @@ fn put_items(out: &mut [u8; ROOM], at: usize, w: &[u64], width: usize, count: us
     end
 }
 
+fn put_number(out: &mut [u8; ROOM], at: usize, n: u64) -> usize {
+    text_output::put_next(out, at, b' ', n)
+}
+
+fn put_id(out: &mut [u8; ROOM], at: usize, p: LpId) -> usize {
+    put_number(out, at, p.to_word())
+}
+
+fn put_tick(out: &mut [u8; ROOM], at: usize, t: SimTime) -> usize {
+    text_output::put_next_tick(out, at, b' ', t)
+}
+
+fn put_two_numbers(out: &mut [u8; ROOM], at: usize, m: u64, n: u64) -> usize {
+    let end = put_number(out, at, m);
+    put_number(out, end, n)
+}
+
+fn put_two_ticks(out: &mut [u8; ROOM], at: usize, t: SimTime, u: SimTime) -> usize {
+    let end = put_tick(out, at, t);
+    put_tick(out, end, u)
+}
+
+fn put_id_and_ticks(out: &mut [u8; ROOM], at: usize, p: LpId, t: SimTime, u: SimTime) -> usize {
+    let end = put_id(out, at, p);
+    put_two_ticks(out, end, t, u)
+}
+
+// The seven counters, the last of which is the state's.
+fn put_counters(out: &mut [u8; ROOM], at: usize, counters: Counters, used: u64) -> usize {
+    let w = [
+        counters.processed_events,
+        counters.emitted_events,
+        counters.remote_events,
+        counters.rounds,
+        counters.null_messages,
+        counters.worker_count,
+        used,
+    ];
+    put_items(out, at, &w, NUMBER, 7)
+}
+
+// The values of an answer, each behind a space.
 fn put_values(out: &mut [u8; ROOM], at: usize, values: Values) -> usize {
-    put_items(out, at, &values.w, values.width, values.count)
+    match values {
+        Values::Nothing => at,
+        Values::Number(n) => put_number(out, at, n),
+        Values::Numbers(m, n) => put_two_numbers(out, at, m, n),
+        Values::Id(p) => put_id(out, at, p),
+        Values::Ids(p, q) => put_two_numbers(out, at, p.to_word(), q.to_word()),
+        Values::Tick(t) => put_tick(out, at, t),
+        Values::Ticks(t, u) => put_two_ticks(out, at, t, u),
+        Values::IdTicks(p, t, u) => put_id_and_ticks(out, at, p, t, u),
+        Values::IdThreeTicks(p, t, u, v) => {
+            let end = put_id_and_ticks(out, at, p, t, u);
+            put_tick(out, end, v)
+        }
+        Values::IdTickDuration(p, t, d) => {
+            put_id_and_ticks(out, at, p, t, SimTime::after_zero(d))
+        }
+        Values::Counted(counters, used) => put_counters(out, at, counters, used),
+    }
 }
 
 fn put_bar(out: &mut [u8; ROOM], at: usize) -> usize {
@@ -322,7 +240,7 @@ fn put_list(out: &mut [u8; ROOM], at: usize, w: &[u64], width: usize, count: usi
 
 fn put_sizes(out: &mut [u8; ROOM], at: usize, head: Header) -> usize {
     let mut end = text_output::put_next(out, at, b' ', head.n as u64);
-    end = text_output::put_next_tick(out, end, b' ', tick_after(head.lookahead));
+    end = put_tick(out, end, SimTime::after_zero(head.lookahead));
     end = text_output::put_next(out, end, b' ', head.next);
     text_output::put_next_tick(out, end, b' ', head.gvt)
 }
@@ -358,7 +276,7 @@ fn print_flags(out: &mut [u8; ROOM], at: usize, initial: bool, running: bool, po
 // The counters and the sizes.
 fn put_numbers(out: &mut [u8; ROOM], at: usize, head: Header, counters: Counters) -> usize {
     let mut end = put_bar(out, at);
-    end = put_values(out, end, counted(counters, head.used));
+    end = put_counters(out, end, counters, head.used);
     end = put_bar(out, end);
     put_sizes(out, end, head)
 }
@@ -402,9 +320,8 @@ fn print_state(out: &mut [u8; ROOM], at: usize, state: Runtime, counters: Counte
 }
 
 fn put_answer(out: &mut [u8; ROOM], answer: Answer) -> usize {
-    let mut end = put_first(out, 0, number_of(answer));
-    end = put_values(out, end, numbers_of(answer));
-    put_values(out, end, ticks_of(answer))
+    let end = put_first(out, answer_values::number_of(answer), name_of(answer));
+    put_values(out, end, answer_values::values_of(answer))
 }
 
 // The line of a call on a state, and of an accepted build.
@@ -415,8 +332,15 @@ pub fn print_line(answer: Answer, state: Runtime, counters: Counters) {
 }
 
 fn put_read(out: &mut [u8; ROOM], answer: ReadAnswer) -> usize {
-    let end = put_first(out, 0, read_number(answer));
-    put_values(out, end, read_values(answer))
+    let end = put_first(out, answer_values::read_number(answer), read_name(answer));
+    put_values(out, end, answer_values::read_values(answer))
+}
+
+// The line of a state given whole.
+pub fn print_given(state: Runtime, counters: Counters) {
+    let mut out = io::buffer();
+    let end = put_name(&mut out, 0, GIVEN);
+    print_state(&mut out, end, state, counters);
 }
 
 // The line of a read.
@@ -429,7 +353,7 @@ pub fn print_read(answer: ReadAnswer, state: Runtime, counters: Counters) {
 // "A refused build has its answer alone".
 pub fn print_refused_build(answer: BuildAnswer) {
     let mut out = io::buffer();
-    let mut end = put_first(&mut out, 0, build_number(answer));
-    end = put_values(&mut out, end, build_values(answer));
+    let mut end = put_first(&mut out, answer_values::build_number(answer), ACCEPTED);
+    end = put_values(&mut out, end, answer_values::build_values(answer));
     text_output::end_line(&mut out, end);
 }

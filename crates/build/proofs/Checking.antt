@@ -1,13 +1,13 @@
 -- What each return of the checks answers.
-use mathlib.Core.Path.{_≡_, refl, sym, ap, _∙_}
+use mathlib.Core.Path.{_≡_, sym, ap, _∙_}
 use mathlib.Core.Bool.{Bool, true, false, not, _||_}
-use mathlib.Core.List.{List, [], _∷_}
-use Prim.Native.Nat.{ℕ, _≤_, _<_}
+use mathlib.Core.List.{List, []}
+use Prim.Native.Nat.{ℕ, _≤_}
 use native.Mathlib.Omega.{arith}
 use lib.Dec.{ltb, eqb}
 use lib.ListN.{take, drop}
 use borrow.Author.Tests.{lt-ltb, le-ltb, ltb-false}
-use types.Run.{OneOf, miss}
+use types.Run.{OneOf}
 use denote.Enum.Declared.{tagOf}
 use Rattle.rules.specs.Base.{if_then_else_, Maybe, none, some, any, member, rising, upTo}
 use Rattle.rules.specs.Answers as A
@@ -16,6 +16,7 @@ use Rattle.rules.specs.Build.{setup, missing, unexpected, malformedRows, topolo
 use Rattle.rules.proofs.Tests.{by-bool, or-both, or-right, not-true, not-false}
 use Rattle.rules.proofs.Table.{Passed}
 use Rattle.rules.proofs.ProcessCount.{at-most-64}
+use Rattle.types.specs.declared.LpId.{LpId}
 use Rattle.build_ids.specs.declared.IdMismatch.{IdMismatch}
 use Rattle.build_ids.specs.declared.MissingRow.{MissingRow}
 use Rattle.build_ids.specs.declared.MissingRow.the-variants.{At, Nothing}
@@ -28,6 +29,7 @@ use Rattle.build.specs.declared.BuildAnswer.the-variants as P
 use Rattle.build.specs.Checks.{answerOf, answerFor, answerOfRows, ChecksProcesses, ChecksTopology, ChecksBuild}
 use Rattle.build.proofs.BuildAnswer.{the-type}
 use Rattle.build.proofs.AnswerRows.{answer-decided, answer-built, answer-refused, answer-passed, answer-on}
+use Rattle.build.proofs.Numbering.{refusals, refusing}
 
 -- 6 where a process has no row; else what is left answers.
 abbrev withoutRow : Maybe ℕ → A.Answer → A.Answer
@@ -139,28 +141,11 @@ module _ (n : ℕ) (sources counts ds : List ℕ) (x : Bool) (y : RowsWellFormed
     judged : (r : BuildAnswer) → answerOf r ≡ left (missingRow n sources) → ChecksTopology n sources counts ds r
     judged r e = record { of-setup = λ L ids. e ∙ sym (row-6 n L ids sources counts ds (not-true _ (sym (fit .of-setup n L ids)))) }
 
-    pub entry-missing : (p : ℕ) (w : MissingRow) → w ≡ At p → missingRowOf w ≡ missingRow n sources → ChecksTopology n sources counts ds (P.MissingTopologyEntry p)
+    pub entry-missing : (p : LpId) (w : MissingRow) → w ≡ At p → missingRowOf w ≡ missingRow n sources → ChecksTopology n sources counts ds (P.MissingTopologyEntry p)
     entry-missing p w e g = judged _ (ap left (sym (ap missingRowOf e) ∙ g))
 
     pub rows-checked : (w : MissingRow) (v : TopologyCheck) (r : BuildAnswer) → w ≡ Nothing → missingRowOf w ≡ missingRow n sources → refusalOf v ≡ firstRefusal (topologyRows n sources counts ds) → answerOf r ≡ answerFor (refusalOf v) → ChecksTopology n sources counts ds r
     rows-checked w v r e g h k = judged r (k ∙ ap answerFor h ∙ answer-decided (topologyRows n sources counts ds) ∙ ap left (sym (ap missingRowOf e) ∙ g))
-
--- An answer that is not Accepted refuses.
-abbrev pub refusals : List ℕ
-refusals = 1 ∷ 2 ∷ 3 ∷ 4 ∷ 5 ∷ 6 ∷ 7 ∷ 8 ∷ 9 ∷ 10 ∷ []
-
-pub refusing : {C : Type 0} (r : BuildAnswer) → OneOf refusals (tagOf the-type r) → ((why : A.Refusal) → answerOf r ≡ A.Refused why → C) → C
-refusing P.Accepted w f = absurd (miss refusals 0 tt w)
-refusing (P.InvalidPartitionCount n) w f = f _ refl
-refusing P.InvalidLookahead w f = f _ refl
-refusing P.UnorderedProcesses w f = f _ refl
-refusing (P.ProcessSetMismatch m u) w f = f _ refl
-refusing P.MalformedTopology w f = f _ refl
-refusing (P.MissingTopologyEntry p) w f = f _ refl
-refusing (P.UnknownTopologySource p) w f = f _ refl
-refusing (P.UnknownTopologyDestination p d) w f = f _ refl
-refusing (P.SelfLoop p) w f = f _ refl
-refusing (P.DuplicateNeighbor p d) w f = f _ refl
 
 -- 1 to 10: the first part refuses, or it is passed and the second answers.
 module _ (n L : ℕ) (ids : List ℕ) (r : BuildAnswer) (j : ChecksProcesses n L ids r) where

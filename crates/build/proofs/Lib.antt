@@ -1,3 +1,4 @@
 pub mod AnswerRows
 pub mod Checking
 pub mod Initializing
+pub mod Numbering

@@ -8,10 +8,11 @@ use Rattle.rules.specs.Answers as A
 use Rattle.rules.specs.Rows.{Row, unless}
 use Rattle.rules.specs.State.{Counters}
 use Rattle.rules.specs.Build.{setup, buildRows, build}
+use Rattle.types.specs.Value.{lpIdOf}
 use Rattle.build.specs.declared.BuildAnswer.{BuildAnswer}
 use Rattle.build.specs.declared.BuildAnswer.the-variants as P
 
--- The rules' answer that each answer stands for; its number and values are the rules' `number` and `values`.
+-- The rules' answer that each answer stands for.
 abbrev pub answerOf : BuildAnswer → A.Answer
 answerOf P.Accepted = A.Accepted
 answerOf (P.InvalidPartitionCount n) = A.Refused (A.InvalidPartitionCount n)
@@ -19,11 +20,11 @@ answerOf P.InvalidLookahead = A.Refused A.InvalidLookahead
 answerOf P.UnorderedProcesses = A.Refused A.UnorderedProcesses
 answerOf (P.ProcessSetMismatch m u) = A.Refused (A.ProcessSetMismatch m u)
 answerOf P.MalformedTopology = A.Refused A.MalformedTopology
-answerOf (P.MissingTopologyEntry p) = A.Refused (A.MissingTopologyEntry p)
-answerOf (P.UnknownTopologySource p) = A.Refused (A.UnknownTopologySource p)
-answerOf (P.UnknownTopologyDestination p d) = A.Refused (A.UnknownTopologyDestination p d)
-answerOf (P.SelfLoop p) = A.Refused (A.SelfLoop p)
-answerOf (P.DuplicateNeighbor p d) = A.Refused (A.DuplicateNeighbor p d)
+answerOf (P.MissingTopologyEntry p) = A.Refused (A.MissingTopologyEntry (lpIdOf p))
+answerOf (P.UnknownTopologySource p) = A.Refused (A.UnknownTopologySource (lpIdOf p))
+answerOf (P.UnknownTopologyDestination p d) = A.Refused (A.UnknownTopologyDestination (lpIdOf p) (lpIdOf d))
+answerOf (P.SelfLoop p) = A.Refused (A.SelfLoop (lpIdOf p))
+answerOf (P.DuplicateNeighbor p d) = A.Refused (A.DuplicateNeighbor (lpIdOf p) (lpIdOf d))
 
 -- The answer that a refusal makes, or its absence; and that of a table, or of a part of one.
 abbrev pub answerFor : Maybe A.Refusal → A.Answer

@@ -3,6 +3,7 @@
 use build_ids::MissingRow;
 use build_topology::TopologyCheck;
 use state::Header;
+use types::LpId;
 use types::SimDuration;
 use types::SimTime;
 ghost use mathlib.Core.Path.{_≡_};
@@ -21,11 +22,11 @@ pub enum BuildAnswer {
     UnorderedProcesses,
     ProcessSetMismatch(u64, u64),
     MalformedTopology,
-    MissingTopologyEntry(u64),
-    UnknownTopologySource(u64),
-    UnknownTopologyDestination(u64, u64),
-    SelfLoop(u64),
-    DuplicateNeighbor(u64, u64),
+    MissingTopologyEntry(LpId),
+    UnknownTopologySource(LpId),
+    UnknownTopologyDestination(LpId, LpId),
+    SelfLoop(LpId),
+    DuplicateNeighbor(LpId, LpId),
 }
 
 // 1 to 4.

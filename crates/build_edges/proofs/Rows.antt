@@ -62,8 +62,9 @@ module _ (L : ℕ) (sources counts ds w₀ : List ℕ) (s : Writable sources cou
             beyond = further (4 * end) (4 * length ds) u w (omega (arith, row-fits)) (rw l at (a .beyond)) ∙ g .beyond;
           }
 
-    pub writing-end : length sources ≤ i → WritesEdges sources counts ds L w₀ w
+    -- The bound is that of the rules.
+    pub writing-end : (M : ℕ) → L ≡ M → length sources ≤ i → WritesEdges sources counts ds M w₀ w
     unfolding Build.edgesOf
-    writing-end h =
+    writing-end M e h =
         let n : at ≡ length ds = omega (arith, g .rest, sum-none counts i (omega (arith, s .paired))) in
-        record { edges = rw (← n) (sym (append-nil (Records.edgesOf at w)) ∙ rw (drop-of-length-le sources h) at (g .edges)); beyond = g .beyond }
+        rw (← e) (record { edges = rw (← n) (sym (append-nil (Records.edgesOf at w)) ∙ rw (drop-of-length-le sources h) at (g .edges)); beyond = g .beyond })

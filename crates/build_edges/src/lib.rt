@@ -1,6 +1,5 @@
 // The edges of an accepted build as words, four to an edge: those of each row in turn, in the order
 // of the list from which the rows take their destinations.
-use build_ids::widen;
 use types::LpId;
 use types::SimDuration;
 use types::SimTime;
@@ -21,10 +20,7 @@ pub fn write_edges<'a>(
     requires { ⌜ Writable (now sources) (now counts) (now destinations) (now edges) ⌝ }
     ensures { λ _. ⌜ WritesEdges (now (sources .entry)) (now (counts .entry)) (now (destinations .entry)) (durationOf lookahead) (now (edges .entry)) (now (edges .exit)) ⌝ }
 {
-    let bound = SimTime {
-        hi: lookahead.hi,
-        lo: lookahead.lo,
-    };
+    let bound = SimTime::after_zero(lookahead);
     let mut at: usize = 0;
     let mut i: usize = 0;
     while i < sources.len() {
@@ -60,7 +56,7 @@ fn put_edge(edges: &mut [u64], i: usize, source: LpId, destination: LpId, bound:
     requires { ⌜ 4 * (i + 1) ≤ length (now edges) ⌝ }
     ensures { λ _. ⌜ WritesRow i (rowEdge (ticksOf bound) (lpIdOf source) (lpIdOf destination) ∷ []) (now (edges .entry)) (now (edges .exit)) ⌝ }
 {
-    edges[4 * i] = widen(source.0);
-    edges[4 * i + 1] = widen(destination.0);
+    edges[4 * i] = source.to_word();
+    edges[4 * i + 1] = destination.to_word();
     words::put_tick(edges, 4 * i + 2, bound);
 }

@@ -6,6 +6,7 @@ use Prim.Native.Nat.{ℕ, _≤_}
 use lib.Dec.{ltb, eqb}
 use Rattle.rules.specs.Base.{if_then_else_, Maybe, none, some, upTo, any, member, rising}
 use Rattle.rules.specs.Build.{missing, unexpected, leastWithoutRow}
+use Rattle.types.specs.Value.{lpIdOf}
 use Rattle.build_ids.specs.declared.IdMismatch.{IdMismatch}
 use Rattle.build_ids.specs.declared.MissingRow.{MissingRow}
 use Rattle.build_ids.specs.declared.MissingRow.the-variants.{At, Nothing}
@@ -32,5 +33,5 @@ unfoldable pub missingRow : ℕ → List ℕ → Maybe ℕ
 missingRow n sources = missingRowIn sources (upTo n)
 
 abbrev pub missingRowOf : MissingRow → Maybe ℕ
-missingRowOf (At p) = some p
+missingRowOf (At p) = some (lpIdOf p)
 missingRowOf Nothing = none

@@ -1,5 +1,6 @@
 // Lists of ids as a host gives them, 32 bits wide: build's checks 3, 4 and 6, and 5 of the row
 // sources. Each is one pass, and equal to its definition in rules/Build (specs/Checks.antt).
+use types::LpId;
 ghost use mathlib.Core.Path.{_≡_};
 ghost use Prim.Native.Nat.{_^_, _<_};
 ghost use lib.Dec.{ltb};
@@ -15,7 +16,7 @@ pub struct IdMismatch {
 
 // 6: the least process that has no row.
 pub enum MissingRow {
-    At(u64),
+    At(LpId),
     Nothing,
 }
 
@@ -87,7 +88,7 @@ pub fn least_without_row(sources: &[u32], n: u64) -> MissingRow
     let mut p: u64 = 0;
     while p < n {
         if !is_at(sources, p as usize, p) {
-            return MissingRow::At(p);
+            return MissingRow::At(LpId(p as u32));
         }
         p += 1;
     }

@@ -1,6 +1,6 @@
 -- 7 to 10: what the tables of build's rows decide, a step at a time.
 use mathlib.Core.Path.{_≡_, refl, sym, ap, _∙_}
-use mathlib.Core.Bool.{true, false, _||_, true≢false}
+use mathlib.Core.Bool.{Bool, true, false, _||_}
 use mathlib.Core.List.{List, [], _∷_, _++_}
 use Prim.Native.Nat.{ℕ, zero, suc, _+_, _-_, _≤_, _<_}
 use native.Mathlib.Numerals.{add-one}
@@ -11,25 +11,18 @@ use lib.Seq.{drop-cons, drop-drop, getD-set-same, getD-set-other}
 use types.Run.{OneOf, miss}
 use denote.Enum.Declared.{tagOf}
 use borrow.Author.Tests.{le-leb, lt-leb, eqb-true, eqb-false, eq-eqb, ne-eqb}
-use Rattle.rules.specs.Base.{if_then_else_, Maybe, none, some, isSome, any, member, sum}
+use Rattle.rules.specs.Base.{if_then_else_, Maybe, none, some, any, member, sum}
 use Rattle.rules.specs.Answers.{Refusal, UnknownTopologySource, UnknownTopologyDestination, SelfLoop, DuplicateNeighbor}
 use Rattle.rules.specs.Rows.{Row, unless}
 use Rattle.rules.specs.Build.{destinationRows, topologyRows}
 use Rattle.rules.proofs.Tests.{by-bool}
 use Rattle.rules.proofs.Lists.{sum-more}
+use Rattle.types.specs.declared.LpId.{LpId}
+use Rattle.types.specs.Value.{lpIdOf}
 use Rattle.build_topology.specs.declared.TopologyCheck.{TopologyCheck}
 use Rattle.build_topology.specs.declared.TopologyCheck.the-variants as fault
 use Rattle.build_topology.specs.Checks.{firstRefusal, refusalOf, Unmarked, CheckedRow, RowsPassed}
 use Rattle.build_topology.proofs.TopologyCheck.{the-type}
-
--- A check that is not Valid refuses.
-pub refuses : (r : TopologyCheck) → OneOf (1 ∷ 2 ∷ 3 ∷ 4 ∷ []) (tagOf the-type r) → isSome (refusalOf r) ≡ true
-unfolding isSome
-refuses fault.Valid w = absurd (miss (1 ∷ 2 ∷ 3 ∷ 4 ∷ []) 0 tt w)
-refuses (fault.UnknownTopologySource p) w = refl
-refuses (fault.UnknownTopologyDestination p d) w = refl
-refuses (fault.SelfLoop p) w = refl
-refuses (fault.DuplicateNeighbor p d) w = refl
 
 -- Two tables one behind the other: the first decides, else the second.
 abbrev orElse : Maybe Refusal → Maybe Refusal → Maybe Refusal
@@ -40,6 +33,17 @@ decided-append : (rs ts : List Row) → firstRefusal (rs ++ ts) ≡ orElse (firs
 unfolding firstRefusal unless if_then_else_
 decided-append [] ts = refl
 decided-append (r ∷ rs) ts = by-bool (r .test) (λ e. rw e) (λ e. rw e (decided-append rs ts))
+
+-- A check that is not Valid refuses, whatever comes behind it.
+abbrev refusing : List ℕ
+refusing = 1 ∷ 2 ∷ 3 ∷ 4 ∷ []
+
+refused-first : (m : Maybe Refusal) (r : TopologyCheck) → OneOf refusing (tagOf the-type r) → orElse (refusalOf r) m ≡ refusalOf r
+refused-first m fault.Valid w = absurd (miss refusing 0 tt w)
+refused-first m (fault.UnknownTopologySource p) w = refl
+refused-first m (fault.UnknownTopologyDestination p d) w = refl
+refused-first m (fault.SelfLoop p) w = refl
+refused-first m (fault.DuplicateNeighbor p d) w = refl
 
 -- A row's destinations
 
@@ -53,17 +57,18 @@ module _ (n p : ℕ) (seen : List ℕ) (d : ℕ) (ds : List ℕ) where
   unfolding firstRefusal unless destinationRows if_then_else_
   at-unknown a = rw (le-leb n d a)
 
-  at-self : d < n → d ≡ p → firstRefusal (destinationRows n p seen (d ∷ ds)) ≡ some (SelfLoop p)
-  unfolding firstRefusal unless destinationRows if_then_else_
-  at-self a b = rw (lt-leb n d a, eq-eqb d p b)
+  module _ (known : d < n) where
+    at-self : eqb d p ≡ true → firstRefusal (destinationRows n p seen (d ∷ ds)) ≡ some (SelfLoop p)
+    unfolding firstRefusal unless destinationRows if_then_else_
+    at-self b = rw (lt-leb n d known, b)
 
-  at-twice : d < n → (d ≡ p → ⊥) → member d seen ≡ true → firstRefusal (destinationRows n p seen (d ∷ ds)) ≡ some (DuplicateNeighbor p d)
-  unfolding firstRefusal unless destinationRows if_then_else_
-  at-twice a b e = rw (lt-leb n d a, ne-eqb d p b, e)
+    at-twice : eqb d p ≡ false → member d seen ≡ true → firstRefusal (destinationRows n p seen (d ∷ ds)) ≡ some (DuplicateNeighbor p d)
+    unfolding firstRefusal unless destinationRows if_then_else_
+    at-twice b e = rw (lt-leb n d known, b, e)
 
-  at-new : d < n → (d ≡ p → ⊥) → member d seen ≡ false → firstRefusal (destinationRows n p seen (d ∷ ds)) ≡ firstRefusal (destinationRows n p (d ∷ seen) ds)
-  unfolding firstRefusal unless destinationRows if_then_else_
-  at-new a b e = rw (lt-leb n d a, ne-eqb d p b, e)
+    at-new : eqb d p ≡ false → member d seen ≡ false → firstRefusal (destinationRows n p seen (d ∷ ds)) ≡ firstRefusal (destinationRows n p (d ∷ seen) ds)
+    unfolding firstRefusal unless destinationRows if_then_else_
+    at-new b e = rw (lt-leb n d known, b, e)
 
 -- A stamp put at d
 stamp-seen : (marks : List ℕ) (d stamp : ℕ) → d < length marks → (x : ℕ) → eqb (getD (set marks d stamp) x 0) stamp ≡ eqb x d || eqb (getD marks x 0) stamp
@@ -86,40 +91,44 @@ pub record Stamped (n p : ℕ) (ds : List ℕ) (stamp : ℕ) (marks : List ℕ) 
   pub seen : (x : ℕ) → eqb (getD marks x 0) stamp ≡ member x (met i ds)
   pub low : (x : ℕ) → getD marks x 0 ≤ stamp
 
-pub stamped-checked : (n p q : ℕ) (ds : List ℕ) (stamp : ℕ) (marks : List ℕ) (i : ℕ) (r : TopologyCheck) → Stamped n p ds stamp marks i → p ≡ q → refusalOf r ≡ firstRefusal (destinationRows n p [] ds) → CheckedRow n q ds marks stamp r
-stamped-checked n p q ds stamp marks i r s e a = record { answer = rw e at a; marked = s .low }
-
-module _ (n p : ℕ) (ds : List ℕ) (stamp : ℕ) (marks : List ℕ) where
-  pub stamped-none : Unmarked n marks stamp → Stamped n p ds stamp marks 0
+module _ (n : ℕ) (source : LpId) (ds : List ℕ) (stamp : ℕ) (marks : List ℕ) where
+  pub stamped-none : Unmarked n marks stamp → Stamped n (lpIdOf source) ds stamp marks 0
   unfolding member any
   stamped-none f = record { within = omega arith; room = f .room; left = refl; seen = λ x. ne-eqb (getD marks x 0) stamp (λ e. omega (arith, f .unmarked x)); low = λ x. omega (arith, f .unmarked x) }
 
-  pub stamped-all : (i : ℕ) → Stamped n p ds stamp marks i → length ds ≤ i → none ≡ firstRefusal (destinationRows n p [] ds)
-  unfolding firstRefusal unless destinationRows
-  stamped-all i s h = sym (s .left ∙ rw (drop-of-length-le ds h))
+  module _ (i : ℕ) (s : Stamped n (lpIdOf source) ds stamp marks i) where
+    pub stamped-all : length ds ≤ i → CheckedRow n (lpIdOf source) ds marks stamp fault.Valid
+    unfolding firstRefusal unless destinationRows
+    stamped-all h = record { answer = sym (s .left ∙ rw (drop-of-length-le ds h)); marked = s .low }
 
-  module _ (i : ℕ) (s : Stamped n p ds stamp marks i) (h : i < length ds) where
-    opened : firstRefusal (destinationRows n p [] ds) ≡ firstRefusal (destinationRows n p (met i ds) (getD ds i 0 ∷ drop (suc i) ds))
-    opened = s .left ∙ ap (λ (l : List ℕ). firstRefusal (destinationRows n p (met i ds) l)) (drop-cons ds i 0 h)
+    -- The destination at place i, as the program has it: an id, and d its word.
+    module _ (h : i < length ds) (d : ℕ) (e : d ≡ getD ds i 0) where
+      abbrev destination : LpId
+      destination = record { 0 = getD ds i 0 }
 
-    pub stamped-unknown : (d : ℕ) → d ≡ getD ds i 0 → n ≤ d → some (UnknownTopologyDestination p d) ≡ firstRefusal (destinationRows n p [] ds)
-    stamped-unknown d e a = rw e (sym (opened ∙ at-unknown n p _ _ _ (rw e at a)))
+      opened : firstRefusal (destinationRows n (lpIdOf source) [] ds) ≡ firstRefusal (destinationRows n (lpIdOf source) (met i ds) (getD ds i 0 ∷ drop (suc i) ds))
+      opened = s .left ∙ ap (λ (l : List ℕ). firstRefusal (destinationRows n (lpIdOf source) (met i ds) l)) (drop-cons ds i 0 h)
 
-    pub stamped-self : (d : ℕ) → d ≡ getD ds i 0 → d < n → d ≡ p → some (SelfLoop p) ≡ firstRefusal (destinationRows n p [] ds)
-    stamped-self d e a b = sym (opened ∙ at-self n p _ _ _ (rw e at a) (rw e at b))
+      pub stamped-unknown : n ≤ d → CheckedRow n (lpIdOf source) ds marks stamp (fault.UnknownTopologyDestination source destination)
+      stamped-unknown a = record { answer = sym (opened ∙ at-unknown n _ _ _ _ (rw e at a)); marked = s .low }
 
-    pub stamped-twice : (d : ℕ) → d ≡ getD ds i 0 → d < n → (d ≡ p → ⊥) → getD marks d 0 ≡ stamp → some (DuplicateNeighbor p d) ≡ firstRefusal (destinationRows n p [] ds)
-    stamped-twice d e a b m = rw e (sym (opened ∙ at-twice n p _ _ _ (rw e at a) (rw e at b) (rw e at (sym (s .seen d) ∙ eq-eqb _ _ m))))
+      module _ (a : d < n) (b : Bool) (q : b ≡ eqb (getD ds i 0) (lpIdOf source)) where
+        pub stamped-self : b ≡ true → CheckedRow n (lpIdOf source) ds marks stamp (fault.SelfLoop source)
+        stamped-self t = record { answer = sym (opened ∙ at-self n _ _ _ _ (rw e at a) (sym q ∙ t)); marked = s .low }
 
-    pub stamped-new : (d : ℕ) → d ≡ getD ds i 0 → d < n → (d ≡ p → ⊥) → (getD marks d 0 ≡ stamp → ⊥) → Stamped n p ds stamp (set marks d stamp) (i + 1)
-    unfolding member any
-    stamped-new d e a b m = record {
-      within = omega arith;
-      room = rw length-set (s .room);
-      left = rw add-one (opened ∙ at-new n p _ _ _ (rw e at a) (rw e at b) (rw e at (sym (s .seen d) ∙ ne-eqb _ _ m)));
-      seen = λ x. rw add-one (stamp-seen marks d stamp (omega (arith, s .room)) x ∙ rw (e, s .seen x));
-      low = stamp-low marks d stamp (omega (arith, s .room)) (s .low);
-    }
+        module _ (t : b ≡ false) where
+          pub stamped-twice : getD marks d 0 ≡ stamp → CheckedRow n (lpIdOf source) ds marks stamp (fault.DuplicateNeighbor source destination)
+          stamped-twice m = record { answer = sym (opened ∙ at-twice n _ _ _ _ (rw e at a) (sym q ∙ t) (rw e at (sym (s .seen d) ∙ eq-eqb _ _ m))); marked = s .low }
+
+          pub stamped-new : (getD marks d 0 ≡ stamp → ⊥) → Stamped n (lpIdOf source) ds stamp (set marks d stamp) (i + 1)
+          unfolding member any
+          stamped-new m = record {
+            within = omega arith;
+            room = rw length-set (s .room);
+            left = rw add-one (opened ∙ at-new n _ _ _ _ (rw e at a) (sym q ∙ t) (rw e at (sym (s .seen d) ∙ ne-eqb _ _ m)));
+            seen = λ x. rw add-one (stamp-seen marks d stamp (omega (arith, s .room)) x ∙ rw (e, s .seen x));
+            low = stamp-low marks d stamp (omega (arith, s .room)) (s .low);
+          }
 
 -- The rows
 
@@ -160,6 +169,9 @@ module _ (n : ℕ) (sources counts ds : List ℕ) where
     pub turned-all : length sources ≤ i → none ≡ firstRefusal (topologyRows n sources counts ds)
     turned-all h = sym (t .left ∙ rw (drop-of-length-le sources h) (row-none n _ _))
 
+    pub turned-unmarked : Unmarked n marks (i + 1)
+    turned-unmarked = record { room = omega (arith, s .few, t .room); unmarked = λ x. omega (arith, t .low x) }
+
     module _ (h : i < length sources) where
       opened-row : firstRefusal (topologyRows n sources counts ds) ≡ firstRefusal (topologyRows n (getD sources i 0 ∷ drop (suc i) sources) (getD counts i 0 ∷ drop (suc i) counts) (drop at ds))
       opened-row = t .left ∙ rw (drop-cons sources i 0 h, drop-cons counts i 0 (omega (arith, s .paired)))
@@ -167,26 +179,26 @@ module _ (n : ℕ) (sources counts ds : List ℕ) where
       pub turned-fits : at + getD counts i 0 ≤ length ds
       turned-fits = omega (arith, t .rest, sum-more counts i (omega (arith, s .paired)))
 
-      pub turned-unknown : (p : ℕ) → p ≡ getD sources i 0 → n ≤ p → some (UnknownTopologySource p) ≡ firstRefusal (topologyRows n sources counts ds)
-      turned-unknown p e a = rw e (sym (opened-row ∙ row-unknown n _ _ _ _ _ (rw e at a)))
+      module _ (p : ℕ) (e : p ≡ getD sources i 0) where
+        pub turned-unknown : n ≤ p → some (UnknownTopologySource (getD sources i 0)) ≡ firstRefusal (topologyRows n sources counts ds)
+        turned-unknown a = sym (opened-row ∙ row-unknown n _ _ _ _ _ (rw e at a))
 
-      -- What the row decides, and the rows after it.
-      turned-else : (p end : ℕ) → p ≡ getD sources i 0 → end ≡ at + getD counts i 0 → p < n → firstRefusal (topologyRows n sources counts ds) ≡ orElse (firstRefusal (destinationRows n (getD sources i 0) [] (take (end - at) (drop at ds)))) (firstRefusal (topologyRows n (drop (suc i) sources) (drop (suc i) counts) (drop end ds)))
-      turned-else p end e f a =
-          let g : end - at ≡ getD counts i 0 = omega arith in
-          let d : drop (getD counts i 0) (drop at ds) ≡ drop end ds = drop-drop (getD counts i 0) at ds ∙ rw (← f) in
-          rw (g, ← d) (opened-row ∙ row-else n _ _ _ _ _ (rw e at a))
+        -- What the row decides, and the rows after it.
+        module _ (a : p < n) (end : ℕ) (f : end ≡ at + getD counts i 0) (after : List ℕ) (r : TopologyCheck) (j : CheckedRow n (getD sources i 0) (take (end - at) (drop at ds)) after (i + 1) r) where
+          turned-else : firstRefusal (topologyRows n sources counts ds) ≡ orElse (refusalOf r) (firstRefusal (topologyRows n (drop (suc i) sources) (drop (suc i) counts) (drop end ds)))
+          turned-else =
+              let g : end - at ≡ getD counts i 0 = omega arith in
+              let d : drop (getD counts i 0) (drop at ds) ≡ drop end ds = drop-drop (getD counts i 0) at ds ∙ rw (← f) in
+              rw (j .answer, g, ← d) (opened-row ∙ row-else n _ _ _ _ _ (rw e at a))
 
-      pub turned-refused : (p end : ℕ) (m : Maybe Refusal) → p ≡ getD sources i 0 → end ≡ at + getD counts i 0 → p < n → m ≡ firstRefusal (destinationRows n (getD sources i 0) [] (take (end - at) (drop at ds))) → isSome m ≡ true → m ≡ firstRefusal (topologyRows n sources counts ds)
-      unfolding isSome
-      turned-refused p end none e f a v w = absurd (true≢false (sym w))
-      turned-refused p end (some r) e f a v w = sym (turned-else p end e f a ∙ rw (← v))
+          pub turned-refused : OneOf refusing (tagOf the-type r) → refusalOf r ≡ firstRefusal (topologyRows n sources counts ds)
+          turned-refused w = sym (turned-else ∙ refused-first _ r w)
 
-      pub turned-sound : (p end : ℕ) (after : List ℕ) → p ≡ getD sources i 0 → end ≡ at + getD counts i 0 → p < n → none ≡ firstRefusal (destinationRows n (getD sources i 0) [] (take (end - at) (drop at ds))) → ((x : ℕ) → getD after x 0 ≤ i + 1) → length after ≡ length marks → Turned n sources counts ds after end (i + 1)
-      turned-sound p end after e f a v l w = record {
-        within = omega arith;
-        room = w ∙ t .room;
-        rest = omega (arith, t .rest, sum-more counts i (omega (arith, s .paired)));
-        left = rw add-one (turned-else p end e f a ∙ rw (← v));
-        low = l;
-      }
+          pub turned-sound : r ≡ fault.Valid → length after ≡ length marks → Turned n sources counts ds after end (i + 1)
+          turned-sound v w = record {
+            within = omega arith;
+            room = w ∙ t .room;
+            rest = omega (arith, t .rest, sum-more counts i (omega (arith, s .paired)));
+            left = rw add-one (turned-else ∙ rw v);
+            low = j .marked;
+          }

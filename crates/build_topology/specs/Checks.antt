@@ -9,6 +9,7 @@ use Rattle.rules.specs.Answers
 use Rattle.rules.specs.Answers.{Refusal}
 use Rattle.rules.specs.Rows.{Row, unless}
 use Rattle.rules.specs.Build.{malformedRows, destinationRows}
+use Rattle.types.specs.Value.{lpIdOf}
 use Rattle.build_topology.specs.declared.TopologyCheck.{TopologyCheck}
 use Rattle.build_topology.specs.declared.TopologyCheck.the-variants as fault
 
@@ -19,10 +20,10 @@ pub record RowsWellFormed (sources counts destinations : List ℕ) (r : Bool) : 
 -- 7 to 10: the refusal of a fault.
 abbrev pub refusalOf : TopologyCheck → Maybe Refusal
 refusalOf fault.Valid = none
-refusalOf (fault.UnknownTopologySource p) = some (Answers.UnknownTopologySource p)
-refusalOf (fault.UnknownTopologyDestination p d) = some (Answers.UnknownTopologyDestination p d)
-refusalOf (fault.SelfLoop p) = some (Answers.SelfLoop p)
-refusalOf (fault.DuplicateNeighbor p d) = some (Answers.DuplicateNeighbor p d)
+refusalOf (fault.UnknownTopologySource p) = some (Answers.UnknownTopologySource (lpIdOf p))
+refusalOf (fault.UnknownTopologyDestination p d) = some (Answers.UnknownTopologyDestination (lpIdOf p) (lpIdOf d))
+refusalOf (fault.SelfLoop p) = some (Answers.SelfLoop (lpIdOf p))
+refusalOf (fault.DuplicateNeighbor p d) = some (Answers.DuplicateNeighbor (lpIdOf p) (lpIdOf d))
 
 -- .. and the one that the first row whose test holds decides on.
 unfoldable pub firstRefusal : List Row → Maybe Refusal

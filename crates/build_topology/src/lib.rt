@@ -3,7 +3,6 @@
 //
 // Each check is equal to its definition in rules/Build (specs/Checks.antt).
 use build_ids::rising;
-use build_ids::widen;
 use types::LpId;
 use types::MAX_EDGES;
 ghost use mathlib.Core.Path.{_≡_};
@@ -13,14 +12,13 @@ ghost use Rattle.rules.specs.Build.{topologyRows};
 ghost use Rattle.types.specs.Value.{lpIdOf};
 ghost use Rattle.build_topology.specs.Checks.{RowsWellFormed, Unmarked, CheckedRow, RowsPassed, refusalOf, firstRefusal};
 
-// "512 edges".
 // 7 to 10, with the values that come with each.
 pub enum TopologyCheck {
     Valid,
-    UnknownTopologySource(u64),
-    UnknownTopologyDestination(u64, u64),
-    SelfLoop(u64),
-    DuplicateNeighbor(u64, u64),
+    UnknownTopologySource(LpId),
+    UnknownTopologyDestination(LpId, LpId),
+    SelfLoop(LpId),
+    DuplicateNeighbor(LpId, LpId),
 }
 
 // 5: whether the counts add up to the total, by what is left of it. The sum may be above 2^64.
@@ -68,19 +66,19 @@ fn check_row<'a>(
     requires { ⌜ Unmarked n (now marks) stamp ⌝ }
     ensures { λ r. ⌜ CheckedRow n (lpIdOf source) (now (destinations .entry)) (now (marks .exit)) stamp r ⌝ }
 {
-    let p = widen(source.0);
     let mut i: usize = 0;
     while i < destinations.len() {
-        let d = widen(destinations[i]);
+        let destination = LpId(destinations[i]);
+        let d = destination.to_word();
         if n <= d {
-            return TopologyCheck::UnknownTopologyDestination(p, d);
+            return TopologyCheck::UnknownTopologyDestination(source, destination);
         }
-        if d == p {
-            return TopologyCheck::SelfLoop(p);
+        if destination.eq(source) {
+            return TopologyCheck::SelfLoop(source);
         }
         let k = d as usize;
         if marks[k] == stamp {
-            return TopologyCheck::DuplicateNeighbor(p, d);
+            return TopologyCheck::DuplicateNeighbor(source, destination);
         }
         marks[k] = stamp;
         i += 1;
@@ -102,14 +100,13 @@ pub fn check_rows<'a>(
     let mut at: usize = 0;
     let mut i: usize = 0;
     while i < sources.len() {
-        let source = sources[i];
-        let p = widen(source);
-        if n <= p {
-            return TopologyCheck::UnknownTopologySource(p);
+        let source = LpId(sources[i]);
+        if n <= source.to_word() {
+            return TopologyCheck::UnknownTopologySource(source);
         }
         let end = at + counts[i] as usize;
         let stamp = i as u64 + 1;
-        let fault = check_row(&destinations[at..end], LpId(source), n, &mut marks, stamp);
+        let fault = check_row(&destinations[at..end], source, n, &mut marks, stamp);
         if let TopologyCheck::Valid = fault {
             at = end;
             i += 1;

@@ -24,7 +24,7 @@ use Rattle.build.specs.Checks.{answerOf, ChecksBuild}
 use Rattle.build.specs.Initialized.{Initializes, emptyHeader}
 use Rattle.build.proofs.BuildAnswer.{the-type}
 use Rattle.build.proofs.AnswerRows.{never}
-use Rattle.build.proofs.Checking.{refusals, refusing}
+use Rattle.build.proofs.Numbering.{refusals, refusing}
 use Rattle.build.proofs.Initializing.{writable}
 use Rattle.call_list.specs.declared.RunResult.{RunResult}
 use Rattle.call_list.specs.declared.RehearsalResult.{RehearsalResult}

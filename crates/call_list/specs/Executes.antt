@@ -4,12 +4,14 @@ use mathlib.Core.List.{List}
 use Prim.Native.Nat.{ℕ, _*_, _≤_, _<_}
 use lib.ListN.{length, getD}
 use Rattle.records.specs.Records.{eventsOf}
+use Rattle.rules.specs.Answers.{number, values}
 use Rattle.rules.specs.Rows.{out}
 use Rattle.rules.specs.Calls.{Call, rule}
 use Rattle.state.specs.declared.Header.{Header}
 use Rattle.state.specs.declared.Counters.{Counters}
 use Rattle.state.specs.declared.CoreResult.{CoreResult}
 use Rattle.state.specs.View.{view, countersOf, answerOf}
+use Rattle.state.specs.Numbers.{numberOf, valuesOf}
 use Rattle.state.specs.ValidArrays.{ValidArrays}
 use Rattle.state.specs.declared.HeaderResult.{HeaderResult}
 use Rattle.schedule_initial.specs.AddsInitial.{CanEnqueue}
@@ -18,6 +20,9 @@ use Rattle.call_words.specs.Decode.{decode, size}
 -- Answer, state and counters are what the rule gives for the call k.
 pub record Executes (k : Call) (h : Header) (c : Counters) (edges pending horizons batch : List ℕ) (r : CoreResult) (edges′ pending′ horizons′ batch′ : List ℕ) : Type 0 where
   pub gives : out (answerOf (eventsOf (r .head .batch) batch′) (r .answer)) (view (r .head) edges′ pending′ horizons′ batch′) (countersOf (r .counters)) ≡ rule (view h edges pending horizons batch) (countersOf c) k
+  -- The answer's number and values are document 01's.
+  pub number-is : numberOf (r .answer) ≡ number (rule (view h edges pending horizons batch) (countersOf c) k .answer)
+  pub values-are : valuesOf (eventsOf (r .head .batch) batch′) (r .answer) ≡ values (rule (view h edges pending horizons batch) (countersOf c) k .answer)
 
 -- The same of add initial and begin, whatever the arrays are that these are not lent.
 abbrev pub ExecutesAddOrBegin : Call → Header → Counters → List ℕ → List ℕ → CoreResult → List ℕ → Type 0

@@ -63,4 +63,4 @@ pub demand-3-of-the-program : (a : Setup) (c : Counters) (r : BuildResult) → B
 demand-3-of-the-program a c r b e ls i =
     let accepts = sym (b .answered) ∙ e in
     let d = claims a c r b accepts ls i in
-    record { same-as-rules = as-rules a c r b accepts ls i; demanded = d; counters = d .counters; pending = d .pending }
+    record { same-as-rules = as-rules a c r b accepts ls i; demanded = d; counters = d .counters; pending = d .pending; gvt = d .gvt; earliest = d .earliest }

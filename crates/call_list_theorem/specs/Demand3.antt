@@ -2,10 +2,11 @@
 use mathlib.Core.Path.{_≡_}
 use mathlib.Core.List.{List, map}
 use lib.ListN.{length}
-use Rattle.rules.specs.State.{zeros}
-use Rattle.rules.specs.Answers.{Read, Pending}
+use Rattle.rules.specs.State.{Event, zeros, maxTick}
+use Rattle.rules.specs.Refresh.{least}
+use Rattle.rules.specs.Answers.{Read, Gvt, Pending, Earliest}
 use Rattle.rules.specs.Build.{Setup, built}
-use Rattle.rules.specs.Reads.{readCounters, readPending}
+use Rattle.rules.specs.Reads.{readGvt, readCounters, readPending, readEarliest}
 use Rattle.rules.specs.Calls.{execute}
 use Rattle.rules.specs.Demand.{Demanded, counts}
 use Rattle.state.specs.View.{viewOf, countersOf}
@@ -20,5 +21,7 @@ pub record Demand3OfProgram (a : Setup) (r : BuildResult) (ls : List Link) : Typ
   pub demanded : Demanded a (history r ls)
   -- "The counters read after the list equal these counts, or 2^64 - 1 where one is larger": a part of `demanded`, spelt with the program's last state. Whole says it of the reading functions.
   pub counters : readCounters (viewOf (stateLeft (r .state) ls)) (countersOf (countersLeft (r .counters) ls)) .answer ≡ Read (counts (history r ls .entries))
+  pub gvt : readGvt (viewOf (stateLeft (r .state) ls)) (countersOf (countersLeft (r .counters) ls)) .answer ≡ Read (Gvt (viewOf (stateLeft (r .state) ls) .gvt))
+  pub earliest : readEarliest (viewOf (stateLeft (r .state) ls)) (countersOf (countersLeft (r .counters) ls)) .answer ≡ Read (Earliest (least maxTick (map (λ (e : Event). e .tick) (viewOf (stateLeft (r .state) ls) .pending))))
   -- "Pending is what its read answers then": likewise.
   pub pending : readPending (viewOf (stateLeft (r .state) ls)) (countersOf (countersLeft (r .counters) ls)) .answer ≡ Read (Pending (length (viewOf (stateLeft (r .state) ls) .pending)))

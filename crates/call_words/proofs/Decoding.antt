@@ -2,7 +2,7 @@
 use mathlib.Core.Path.{_≡_, refl, sym, ap, _∙_}
 use mathlib.Core.Logic.{⊎-elim}
 use mathlib.Core.List.{List}
-use Prim.Native.Nat.{ℕ, _+_, _*_, _^_, _%_, _≤_, _<_}
+use Prim.Native.Nat.{ℕ, _+_, _*_, _≤_, _<_}
 use native.Mathlib.Omega.{arith}
 use lib.Dec.{eqb}
 use lib.ListN.{length, getD, List·getD-eq-default}
@@ -12,12 +12,12 @@ use Rattle.rules.specs.Calls.{Call, AddInitial, Begin, Step}
 use Rattle.rules.proofs.Tests.{by-test, by-bool}
 use Rattle.types.specs.declared.LpId.{LpId}
 use Rattle.types.specs.declared.SimTime.{SimTime}
-use Rattle.types.specs.Value.{ticksOf, lpIdOf}
+use Rattle.types.specs.Value.{ticksOf, lpIdOf, idOfWord}
 use Rattle.types.proofs.Halves.{lt-or-ge}
 use Rattle.words.specs.Words.{tickAt}
 use Rattle.records.specs.Records.{payloadOf}
 use Rattle.state.specs.View.{messageOf}
-use Rattle.call_words.specs.Decode.{Decoded, Nothing, Decodes, messageAt, ifComplete, handBackAt, decode, size, Sizes, callOf}
+use Rattle.call_words.specs.Decode.{Decoded, Nothing, Decodes, messageAt, ifComplete, handBackAt, maxItems, handBackIn, decode, size, Sizes, callOf}
 
 module _ (w : List ℕ) (at : ℕ) where
   broken : (k : Call) (n : ℕ) → length w < at + n → ifComplete w at k n ≡ Nothing
@@ -47,7 +47,7 @@ module _ (w : List ℕ) (at : ℕ) where
   unfolding decode if_then_else_
   tag-2 e = rw e
 
-  tag-3 : getD w at 0 ≡ 3 → decode w at ≡ ifComplete w at (handBackAt w at (getD w (at + 2) 0)) (3 + 8 * getD w (at + 2) 0)
+  tag-3 : getD w at 0 ≡ 3 → decode w at ≡ handBackIn w at (getD w (at + 2) 0)
   unfolding decode if_then_else_
   tag-3 e = rw e
 
@@ -71,13 +71,32 @@ module _ (w : List ℕ) (at : ℕ) where
   pub size-2 : getD w at 0 ≡ 2 → at < length w → 1 ≡ size (decode w at)
   size-2 e h = size-fits 1 (omega arith) _ ∙ sym (ap size (tag-2 e))
 
-  pub size-3 : (r : ℕ) → getD w at 0 ≡ 3 → Sizes w at (3 + 8 * getD w (at + 2) 0) r → r ≡ size (decode w at)
-  size-3 r e f = f _ ∙ sym (ap size (tag-3 e))
+  pub size-3 : (r : ℕ) → getD w at 0 ≡ 3 → r ≡ size (handBackIn w at (getD w (at + 2) 0)) → r ≡ size (decode w at)
+  size-3 r e f = f ∙ sym (ap size (tag-3 e))
+
+  -- Hand backs of n emissions.
+  module _ (n : ℕ) where
+    too-many : maxItems < n → handBackIn w at n ≡ Nothing
+    unfolding handBackIn if_then_else_
+    too-many h = rw (lt-ltb maxItems n h)
+
+    not-too-many : n ≤ maxItems → handBackIn w at n ≡ ifComplete w at (handBackAt w at n) (3 + 8 * n)
+    unfolding handBackIn if_then_else_
+    not-too-many h = rw (le-ltb maxItems n h)
+
+    pub back-too-many : maxItems < n → 0 ≡ size (handBackIn w at n)
+    back-too-many h = sym (ap size (too-many h))
+
+    pub back-broken : length w < at + (3 + 8 * n) → 0 ≡ size (handBackIn w at n)
+    back-broken h = ⊎-elim back-too-many (λ (b : n ≤ maxItems). size-broken (3 + 8 * n) h _ ∙ sym (ap size (not-too-many b))) (lt-or-ge maxItems n)
+
+    pub back-fits : n ≤ maxItems → at + (3 + 8 * n) ≤ length w → 3 + 8 * n ≡ size (handBackIn w at n)
+    back-fits b h = size-fits (3 + 8 * n) h _ ∙ sym (ap size (not-too-many b))
 
   -- What holds of nothing and of every call of some words holds of what is decoded.
   each : (P : Decoded → Type 0) → P Nothing → ((k : Call) (n : ℕ) → 0 < n → P (ifComplete w at k n)) → P (decode w at)
-  unfolding decode
-  each P f g = by-test P (λ _. g _ 8 (omega arith)) (λ _. by-test P (λ _. g _ 4 (omega arith)) (λ _. by-test P (λ _. g _ 1 (omega arith)) (λ _. by-test P (λ _. g _ (3 + 8 * getD w (at + 2) 0) (omega arith)) (λ _. f))))
+  unfolding decode handBackIn
+  each P f g = by-test P (λ _. g _ 8 (omega arith)) (λ _. by-test P (λ _. g _ 4 (omega arith)) (λ _. by-test P (λ _. g _ 1 (omega arith)) (λ _. by-test P (λ _. by-test P (λ _. f) (λ _. g _ (3 + 8 * getD w (at + 2) 0) (omega arith))) (λ _. f))))
 
   -- A call takes some words, and they are there.
   pub record Sound (d : Decoded) : Type 0 where
@@ -125,10 +144,17 @@ module _ (w : List ℕ) (at : ℕ) where
     stands-2 e = stands _ 1 (omega arith) (tag-2 e) l
 
     pub stands-3 : (getD w at 0 ≡ 0 → ⊥) → (getD w at 0 ≡ 1 → ⊥) → (getD w at 0 ≡ 2 → ⊥) → Stands (handBackAt w at (getD w (at + 2) 0)) (3 + 8 * getD w (at + 2) 0)
-    stands-3 n0 n1 n2 = by-bool (eqb (getD w at 0) 3) (λ t. stands _ _ (omega arith) (tag-3 (eqb-true (getD w at 0) 3 t)) l) (λ t. let z = size-other n0 n1 n2 (eqb-false (getD w at 0) 3 t) in absurd (omega arith))
+    stands-3 n0 n1 n2 = by-bool (eqb (getD w at 0) 3)
+        (λ t.
+        let e = tag-3 (eqb-true (getD w at 0) 3 t) in
+        ⊎-elim
+        (λ (b : maxItems < getD w (at + 2) 0). let z = ap size (e ∙ too-many (getD w (at + 2) 0) b) in absurd (omega (arith, z, l)))
+        (λ (b : getD w (at + 2) 0 ≤ maxItems). stands _ _ (omega arith) (e ∙ not-too-many (getD w (at + 2) 0) b) l)
+        (lt-or-ge maxItems (getD w (at + 2) 0)))
+        (λ t. let z = size-other n0 n1 n2 (eqb-false (getD w at 0) 3 t) in absurd (omega arith))
 
 -- A message by its parts.
-pub message-is : (w : List ℕ) (at : ℕ) (s d : LpId) (t : SimTime) → lpIdOf s ≡ getD w at 0 % 2 ^ 32 → lpIdOf d ≡ getD w (at + 1) 0 % 2 ^ 32 → ticksOf t ≡ tickAt w (at + 2)
+pub message-is : (w : List ℕ) (at : ℕ) (s d : LpId) (t : SimTime) → lpIdOf s ≡ idOfWord (getD w at 0) → lpIdOf d ≡ idOfWord (getD w (at + 1) 0) → ticksOf t ≡ tickAt w (at + 2)
     → messageOf (record { source = s; destination = d; tick = t; len = getD w (at + 4) 0; «payload_hi» = getD w (at + 5) 0; «payload_lo» = getD w (at + 6) 0 }) ≡ messageAt w at
 unfolding messageAt
 message-is w at s d t a b e = λ i. record { source = a i; destination = b i; tick = e i; payload = payloadOf (getD w (at + 4) 0) (getD w (at + 5) 0) (getD w (at + 6) 0) }

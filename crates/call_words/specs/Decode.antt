@@ -1,12 +1,13 @@
 -- What words say as calls: docs/CALLS.md, tags 0 to 3. Reading past the end gives zeros, so a call that breaks off is one of more words than there are.
 use mathlib.Core.Path.{_≡_}
 use mathlib.Core.List.{List, [], _∷_}
-use Prim.Native.Nat.{ℕ, zero, suc, _+_, _*_, _^_, _%_}
+use Prim.Native.Nat.{ℕ, zero, suc, _+_, _*_}
 use lib.Dec.{ltb, eqb}
 use lib.ListN.{length, getD, drop}
 use Rattle.rules.specs.Base.{if_then_else_}
 use Rattle.rules.specs.State.{Message}
 use Rattle.rules.specs.Calls.{Call, AddInitial, Begin, Step, HandBack}
+use Rattle.types.specs.Value.{idOfWord}
 use Rattle.words.specs.Words.{tickAt}
 use Rattle.records.specs.Records.{payloadOf}
 use Rattle.reply_words.specs.Emissions.{emissionsOf}
@@ -19,8 +20,8 @@ pub data Decoded : Type 0 where
 -- "source, destination, tick (2), payload length, payload (2)"; "of an id word the lower half counts".
 unfoldable pub messageAt : List ℕ → ℕ → Message
 messageAt w at = record {
-  source = getD w at 0 % 2 ^ 32;
-  destination = getD w (at + 1) 0 % 2 ^ 32;
+  source = idOfWord (getD w at 0);
+  destination = idOfWord (getD w (at + 1) 0);
   tick = tickAt w (at + 2);
   payload = payloadOf (getD w (at + 4) 0) (getD w (at + 5) 0) (getD w (at + 6) 0);
 }
@@ -29,9 +30,16 @@ messageAt w at = record {
 unfoldable pub ifComplete : List ℕ → ℕ → Call → ℕ → Decoded
 ifComplete w at k n = if ltb (length w) (at + n) then Nothing else Decodes k n
 
--- A hand back of n emissions. Unlike those of a message, the ids of an emission are whole words, as 26 to 33 check them.
+-- A hand back of n emissions.
 unfoldable pub handBackAt : List ℕ → ℕ → ℕ → Call
 handBackAt w at n = HandBack (getD w (at + 1) 0) (emissionsOf n (drop (at + 3) w))
+
+-- "more than 4,096 .. emissions .. of one list" cannot be decoded.
+abbrev pub maxItems : ℕ
+maxItems = 4096
+
+unfoldable pub handBackIn : List ℕ → ℕ → ℕ → Decoded
+handBackIn w at n = if ltb maxItems n then Nothing else ifComplete w at (handBackAt w at n) (3 + 8 * n)
 
 unfoldable pub decode : List ℕ → ℕ → Decoded
 decode w at =
@@ -40,7 +48,7 @@ decode w at =
     if eqb tag 0 then ifComplete w at (AddInitial (messageAt w (at + 1))) 8
     else if eqb tag 1 then ifComplete w at (Begin (tickAt w (at + 1)) (getD w (at + 3) 0)) 4
     else if eqb tag 2 then ifComplete w at Step 1
-    else if eqb tag 3 then ifComplete w at (handBackAt w at n) (3 + 8 * n)
+    else if eqb tag 3 then handBackIn w at n
     else Nothing
 
 -- How many words it takes; 0 for nothing.

@@ -3,21 +3,23 @@
 use state::Message;
 use types::LpId;
 ghost use mathlib.Core.Path.{_≡_};
-ghost use Prim.Native.Nat.{_+_, _*_, _^_, _/_, _%_, _≤_};
+ghost use Prim.Native.Nat.{_+_, _*_, _/_, _≤_};
 ghost use lib.ListN.{length, getD, drop};
-ghost use Rattle.types.specs.Value.{lpIdOf};
 ghost use Rattle.reply_words.specs.Emissions.{emissionsOf};
 ghost use Rattle.state.specs.View.{messageOf};
-ghost use Rattle.call_words.specs.Decode.{messageAt, decode, size, Sizes};
+ghost use Rattle.call_words.specs.Decode.{messageAt, handBackIn, decode, size, Sizes};
 
 // The tags.
-const ADD_INITIAL: u64 = 0;
+pub const ADD_INITIAL: u64 = 0;
 
 pub const BEGIN: u64 = 1;
 
 pub const STEP: u64 = 2;
 
-const HAND_BACK: u64 = 3;
+pub const HAND_BACK: u64 = 3;
+
+// A hand back of more emissions is nothing that can be decoded.
+pub const MAX_ITEMS: u64 = 4096;
 
 // How many words a call takes that should have so many, or 0 if it breaks off.
 fn complete_size(words: &[u64], at: usize, count: usize) -> usize
@@ -33,7 +35,7 @@ fn complete_size(words: &[u64], at: usize, count: usize) -> usize
 // The same of a hand back.
 fn hand_back_size(words: &[u64], at: usize) -> usize
     requires { ⌜ at ≤ length (now words) ⌝ }
-    ensures { λ r. ⌜ Sizes (now (words .entry)) at (3 + 8 * getD (now (words .entry)) (at + 2) 0) r ⌝ }
+    ensures { λ r. ⌜ r ≡ size (handBackIn (now (words .entry)) at (getD (now (words .entry)) (at + 2) 0)) ⌝ }
 {
     let left = words.len() - at;
     if left < 3 {
@@ -41,6 +43,9 @@ fn hand_back_size(words: &[u64], at: usize) -> usize
     }
     let room = (left - 3) / 8;
     let emitted = words[at + 2];
+    if MAX_ITEMS < emitted {
+        return 0;
+    }
     if (room as u64) < emitted {
         return 0;
     }
@@ -70,21 +75,14 @@ pub fn call_size(words: &[u64], at: usize) -> usize
     0
 }
 
-// The lower half of an id word.
-fn lp_id_of(word: u64) -> LpId
-    ensures { λ r. ⌜ lpIdOf r ≡ word % 2 ^ 32 ⌝ }
-{
-    LpId((word % 4294967296) as u32)
-}
-
 // The message in the seven words from that place on.
 pub fn message_in(words: &[u64], at: usize) -> Message
     requires { ⌜ at + 7 ≤ length (now words) ⌝ }
     ensures { λ r. ⌜ messageOf r ≡ messageAt (now (words .entry)) at ⌝ }
 {
     Message {
-        source: lp_id_of(words[at]),
-        destination: lp_id_of(words[at + 1]),
+        source: LpId::from_word(words[at]),
+        destination: LpId::from_word(words[at + 1]),
         tick: words::tick_in(words, at + 2),
         len: words[at + 4],
         payload_hi: words[at + 5],

@@ -19,19 +19,19 @@ use Rattle.rules.specs.Base.{if_then_else_, Maybe, some}
 use Rattle.rules.specs.State.{Event, Edge}
 use Rattle.rules.specs.Pending.{firstOf, tickOr, firstTick}
 use Rattle.rules.specs.Frontiers.{safe}
-use Rattle.frontiers.specs.Tables.{tickOf, SafeFrontiers, Changed, Lowered, FirstTicks, FirstTickSet}
+use Rattle.frontiers.specs.Tables.{tickOf, SafeFrontiers, Changed, LowersFrontier, FirstTicks, FirstTickSet}
 use Rattle.frontiers.specs.Rises.{Destinations}
 use Rattle.frontiers.proofs.Changing.{changed-put, changed-kept, changed-past}
 
 -- Frontiers.
 module _ (edges w : List ℕ) (i : ℕ) where
-  pub lower-yes : (b : SimTime) (u : List ℕ) → ticksOf b ≡ tickAt edges (4 * i + 2) → getD edges (4 * i + 1) 0 < 64 → length w ≡ 128 → LowersTick w (2 * getD edges (4 * i + 1) 0) b u → Lowered (edgeAt edges i) w u
+  pub lower-yes : (b : SimTime) (u : List ℕ) → ticksOf b ≡ tickAt edges (4 * i + 2) → getD edges (4 * i + 1) 0 < 64 → length w ≡ 128 → LowersTick w (2 * getD edges (4 * i + 1) 0) b u → LowersFrontier (edgeAt edges i) w u
   unfolding edgeAt
   lower-yes b u eb h l s =
       let d = getD edges (4 * i + 1) 0 in
       ⊎-elim
       (λ (y : ticksOf b < tickOf w d). changed-put w u d b (min (tickAt edges (4 * i + 2))) h l (rw (← eb) (omega arith)) (s .falls y))
-      (λ (n : tickOf w d ≤ ticksOf b). rw (s .stays n) (changed-kept w d (min (tickAt edges (4 * i + 2))) (rw (← eb) (omega arith))))
+      (λ (n : tickOf w d ≤ ticksOf b). rw (s .unchanged n) (changed-kept w d (min (tickAt edges (4 * i + 2))) (rw (← eb) (omega arith))))
       (lt-or-ge (ticksOf b) (tickOf w d))
 
 -- The frontier falls by the edges in turn, whichever way round the least is taken.
@@ -63,7 +63,7 @@ module _ (edges : List ℕ) (m : ℕ) (w₀ : List ℕ) where
   unfolding Destinations edgeAt
   destination-at i l d = d i l
 
-  pub falling-more : (i : ℕ) (w u : List ℕ) → i < m → Falling i w → Lowered (edgeAt edges i) w u → Falling (i + 1) u
+  pub falling-more : (i : ℕ) (w u : List ℕ) → i < m → Falling i w → LowersFrontier (edgeAt edges i) w u → Falling (i + 1) u
   unfolding Changed safe
   falling-more i w u h s c = record {
     within = omega arith;

@@ -22,8 +22,8 @@ unfoldable pub Changed : ℕ → (ℕ → ℕ) → List ℕ → List ℕ → Typ
 Changed d f w u = (p : ℕ) → p < 64 → tickOf u p ≡ (if eqb d p then f (tickOf w p) else tickOf w p)
 
 -- The frontier of the edge's destination falls to its bound.
-abbrev pub Lowered : Edge → List ℕ → List ℕ → Type 0
-Lowered e w u = Changed (e .destination) (min (e .bound)) w u
+abbrev pub LowersFrontier : Edge → List ℕ → List ℕ → Type 0
+LowersFrontier e w u = Changed (e .destination) (min (e .bound)) w u
 
 -- The table w holds the first pending tick of the first n processes, or d.
 unfoldable pub FirstTicks : ℕ → List Event → ℕ → List ℕ → Type 0

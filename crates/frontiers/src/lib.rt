@@ -11,7 +11,7 @@ ghost use Prim.Native.Nat.{_+_, _*_, _<_, _≤_};
 ghost use lib.ListN.{length, getD};
 ghost use Rattle.types.specs.Value.{ticksOf, durationOf};
 ghost use Rattle.records.specs.Records.{edgeAt, edgesOf, eventAt, eventsOf};
-ghost use Rattle.frontiers.specs.Tables.{SafeFrontiers, Lowered, FirstTicks, FirstTickSet, capped};
+ghost use Rattle.frontiers.specs.Tables.{SafeFrontiers, LowersFrontier, FirstTicks, FirstTickSet, capped};
 ghost use Rattle.frontiers.specs.Rises.{RaisedEdge, RaisedEdges, Sources, Destinations};
 ghost use mathlib.Core.Bool.{_||_};
 ghost use Rattle.frontiers.specs.InputFrontiers.{RaisedHorizon, RaisedHorizons, NewBounds, Eligible};
@@ -32,7 +32,7 @@ pub fn compute_safe_frontiers(edges: &[u64], count: usize, n: usize, top: SimTim
 // The frontier of edge i's destination falls to the edge's bound, if that is lower.
 fn lower_frontier(edges: &[u64], i: usize, safe: &mut [u64])
     requires { ⌜ (4 * i + 4 ≤ length (now edges)) × (length (now safe) ≡ 128) × (getD (now edges) (4 * i + 1) 0 < 64) ⌝ }
-    ensures { λ _. ⌜ Lowered (edgeAt (now (edges .entry)) i) (now (safe .entry)) (now (safe .exit)) ⌝ }
+    ensures { λ _. ⌜ LowersFrontier (edgeAt (now (edges .entry)) i) (now (safe .entry)) (now (safe .exit)) ⌝ }
 {
     let to = edges[4 * i + 1];
     let at = (2 * to) as usize;

@@ -36,7 +36,7 @@ use Rattle.hand_back_end.specs.EndsRound.{Poisons}
 use Rattle.hand_back_commit.specs.HandsBack.{HandsBack}
 use Rattle.hand_back_commit.specs.Commits.{InHand, ReplyChecked, Finishes, Fits, FinalCheck, Ends}
 use Rattle.hand_back_commit.proofs.Back.{back-poisoned, back-empty, back-malformed}
-use Rattle.hand_back.specs.ReplyChecks.{repliedOf, asGivenTo, Passed, EarlyRows, Ready, Started, Begins, Reviewed, Commits}
+use Rattle.hand_back.specs.ReplyChecks.{repliedOf, asGivenTo, Passed, EarlyRows, Ready, Started, Begins, ChecksReply, Commits}
 
 -- 12 and 25.
 module _ (h : Header) where
@@ -98,11 +98,11 @@ module _ (h : Header) (E Z B : List ℕ) (mask : ℕ) (s : ReplyCheck) (R T : Li
     mask-is : s .going ≡ true → s .mask ≡ mask
     mask-is g = ap (λ (x : ReplyCheck). x .mask) (b .started g .start)
 
-    formed : s .going ≡ true → a .going ≡ not (malformed (eventsOf (h .batch) B) mask xs)
-    formed g =
+    not-malformed : s .going ≡ true → a .going ≡ not (malformed (eventsOf (h .batch) B) mask xs)
+    not-malformed g =
         let q = eventsOf (h .batch) B in
         let e : malformed q mask xs ≡ anyMalformedEmission q mask 0 xs = malformed-in-turn q mask xs ∙ rw (b .started g .known) in
-        rw e (rw (mask-is g) at (t .formed g))
+        rw e (rw (mask-is g) at (t .not-malformed g))
 
     was : a .going ≡ true → s .going ≡ true
     was g = was-going h R T Z B s begun xs a t g
@@ -110,17 +110,17 @@ module _ (h : Header) (E Z B : List ℕ) (mask : ℕ) (s : ReplyCheck) (R T : Li
     malformed-now : a .going ≡ false → s .going ≡ true → (c : Counters) (Q : List ℕ) → ValidArrays h E Q Z B → HandsBack h c E Q Z B mask xs (asGivenTo h c a) Q Z B
     malformed-now n g c Q l =
         let p = b .started g .passed in
-        rw (t .refused g n) (back-malformed h c E Q Z B mask xs l (p .healthy) (p .in-hand) (not-false _ (sym (formed g) ∙ n)))
+        rw (t .refused g n) (back-malformed h c E Q Z B mask xs l (p .healthy) (p .in-hand) (not-false _ (sym (not-malformed g) ∙ n)))
 
-    pub reviewed : Reviewed h E Z B mask xs a
-    reviewed = record {
+    pub checks-reply : ChecksReply h E Z B mask xs a
+    checks-reply = record {
       refused = λ n c Q l. by-bool (s .going) (λ g. malformed-now n g c Q l) (λ g. rw (t .stopped g) (b .refused g c xs Q Z l));
       passed = λ g. b .started (was g) .passed;
-      heard = λ g Q. let e = b .started (was g) in record {
+      checked = λ g Q. let e = b .started (was g) in record {
         number = refl;
-        formed = not-true _ (sym (formed (was g)) ∙ g);
+        not-malformed = not-true _ (sym (not-malformed (was g)) ∙ g);
         failed-is = t .same-failed ∙ ap (λ (x : ReplyCheck). x .failed) (e .start);
-        judged = rw (t .same-failed) (t .judged g E Q B (e .routes));
+        outcome-is = rw (t .same-failed) (t .outcome-is g E Q B (e .routes));
         remote = t .remote g;
       };
     }
@@ -156,7 +156,7 @@ module _ (w : List ℕ) where
     lost x r B′ d mask t = f .loses x h c E Q Z B r B′ refl refl i d mask (repliedOf w) (subst (λ (y : ℕ). ReplyChecked h E Q Z B a mask y (repliedOf w)) count-is t)
 
 -- The call.
-module _ (h : Header) (c : Counters) (E Q Z B : List ℕ) (mask : ℕ) (xs : List Emission) (l : ValidArrays h E Q Z B) (a : ReplyCheck) (v : Reviewed h E Z B mask xs a) where
+module _ (h : Header) (c : Counters) (E Q Z B : List ℕ) (mask : ℕ) (xs : List Emission) (l : ValidArrays h E Q Z B) (a : ReplyCheck) (v : ChecksReply h E Z B mask xs a) where
   pub in-hand : a .going ≡ true → InHand h E Q Z B
   in-hand g = let p = v .passed g in record { lent = l; healthy = p .healthy; in-hand = omega (arith, p .in-hand) }
 
@@ -165,4 +165,4 @@ module _ (h : Header) (c : Counters) (E Q Z B : List ℕ) (mask : ℕ) (xs : Lis
 
   pub handed-back : a .going ≡ true → (r : CoreResult) (Q′ Z′ B′ : List ℕ) → Commits h c E Q Z B a xs r Q′ Z′ B′ → HandsBack h c E Q Z B mask xs r Q′ Z′ B′
   unfolding Commits
-  handed-back g r Q′ Z′ B′ m = m mask (v .heard g Q)
+  handed-back g r Q′ Z′ B′ m = m mask (v .checked g Q)

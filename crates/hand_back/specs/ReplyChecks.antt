@@ -65,10 +65,10 @@ pub record Begins (h : Header) (edges batch : List ℕ) (mask : ℕ) (a : ReplyC
   pub started : a .going ≡ true → Started h edges batch mask a R T
 
 -- The emissions xs are checked: the call is refused with all as given, or its round is queued or lost.
-pub record Reviewed (h : Header) (edges horizons batch : List ℕ) (mask : ℕ) (xs : List Emission) (a : ReplyCheck) : Type 0 where
+pub record ChecksReply (h : Header) (edges horizons batch : List ℕ) (mask : ℕ) (xs : List Emission) (a : ReplyCheck) : Type 0 where
   pub refused : a .going ≡ false → (c : Counters) (P : List ℕ) → ValidArrays h edges P horizons batch → HandsBack h c edges P horizons batch mask xs (asGivenTo h c a) P horizons batch
   pub passed : a .going ≡ true → Passed h
-  pub heard : a .going ≡ true → (P : List ℕ) → ReplyChecked h edges P horizons batch a mask (length xs) xs
+  pub checked : a .going ≡ true → (P : List ℕ) → ReplyChecked h edges P horizons batch a mask (length xs) xs
 
 -- What is left is what the rules' hand back of these emissions leaves.
 unfoldable pub Commits : Header → Counters → List ℕ → List ℕ → List ℕ → List ℕ → ReplyCheck → List Emission → CoreResult → List ℕ → List ℕ → List ℕ → Type 0

@@ -14,7 +14,7 @@ ghost use Rattle.reply_words.specs.Emissions.{emissionsOf};
 ghost use Rattle.state.specs.ValidArrays.{ValidArrays};
 ghost use Rattle.hand_back_commit.specs.HandsBack.{HandsBack};
 ghost use Rattle.hand_back_commit.specs.Commits.{InHand};
-ghost use Rattle.hand_back.specs.ReplyChecks.{repliedOf, EarlyRows, Ready, Begins, Reviewed, asGivenTo, Commits};
+ghost use Rattle.hand_back.specs.ReplyChecks.{repliedOf, EarlyRows, Ready, Begins, ChecksReply, asGivenTo, Commits};
 
 // Rows 12 and 25.
 fn refusal(head: Header) -> Answer
@@ -65,7 +65,7 @@ fn check_reply<'a>(
     reply: &'a [u64],
 ) -> ReplyCheck
     requires { ⌜ Ready head (now edges) (now batch) × (length (now horizons) ≡ 128) × (length (now batch) ≡ 512) ⌝ }
-    ensures { λ r. ⌜ Reviewed head (now (edges .entry)) (now (horizons .entry)) (now (batch .entry)) mask (repliedOf (now (reply .entry))) r ⌝ }
+    ensures { λ r. ⌜ ChecksReply head (now (edges .entry)) (now (horizons .entry)) (now (batch .entry)) mask (repliedOf (now (reply .entry))) r ⌝ }
 {
     let mut routes = [0u64; 64];
     let mut places = [0u64; 64];

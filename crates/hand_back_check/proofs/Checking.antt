@@ -40,11 +40,11 @@ module _ (h : Header) (R T Z B : List ℕ) (a : ReplyCheck) (d : CheckStarted h 
     stopped = λ _. refl;
     same-mask = refl;
     same-failed = refl;
-    formed = λ g. g;
+    not-malformed = λ g. g;
     refused = λ g k. not-both g k;
     last = λ g. ap (λ (x : ReplyCheck). x .last) (d .started g);
     remote = λ g. ap (λ (x : ReplyCheck). x .remote) (d .started g);
-    judged = λ g X Q W w. rw (ap (λ (x : ReplyCheck). x .outcome) (d .started g)) nothing;
+    outcome-is = λ g X Q W w. rw (ap (λ (x : ReplyCheck). x .outcome) (d .started g)) nothing;
   }
 
   module _ (xs : List Rule.Emission) (b : ReplyCheck) (t : Checked h R T Z B a xs b) where
@@ -69,13 +69,13 @@ module _ (h : Header) (R T Z B : List ℕ) (a : ReplyCheck) (d : CheckStarted h 
           stopped = λ k. same ∙ t .stopped k;
           same-mask = ap (λ (y : ReplyCheck). y .mask) same ∙ t .same-mask;
           same-failed = ap (λ (y : ReplyCheck). y .failed) same ∙ t .same-failed;
-          formed = λ k.
-              let z : anyMalformedEmission q (a .mask) 0 xs ≡ true = not-true-of (sym (t .formed k) ∙ g) in
+          not-malformed = λ k.
+              let z : anyMalformedEmission q (a .mask) 0 xs ≡ true = not-true-of (sym (t .not-malformed k) ∙ g) in
               rw (same, g, ill-snoc q (a .mask) 0 xs x, z);
           refused = λ k _. rw same (t .refused k g);
           last = λ k. not-both k (rw same g);
           remote = λ k. not-both k (rw same g);
-          judged = λ k. not-both k (rw same g);
+          outcome-is = λ k. not-both k (rw same g);
         }
 
       -- It is checked.
@@ -87,27 +87,27 @@ module _ (h : Header) (R T Z B : List ℕ) (a : ReplyCheck) (d : CheckStarted h 
         k = was-going g
 
         none-before : anyMalformedEmission q (a .mask) 0 xs ≡ false
-        none-before = not-false-of (sym (t .formed k) ∙ g)
+        none-before = not-false-of (sym (t .not-malformed k) ∙ g)
 
-        formed-more : r .going ≡ not (anyMalformedEmission q (a .mask) 0 (xs ++ (x ∷ [])))
-        formed-more = rw (ill-snoc q (a .mask) 0 xs x, none-before, ← t .last g, ← t .same-mask) (j .formed)
+        not-malformed-more : r .going ≡ not (anyMalformedEmission q (a .mask) 0 (xs ++ (x ∷ [])))
+        not-malformed-more = rw (ill-snoc q (a .mask) 0 xs x, none-before, ← t .last g, ← t .same-mask) (j .not-malformed)
 
-        judged-more : r .going ≡ true → (X Q W : List ℕ) → Routes (edgesOf (h .edges) X) R → ChecksRows (rowsUpTo (view h X Q Z W) q (a .failed) (xs ++ (x ∷ []))) (r .outcome)
+        outcome-more : r .going ≡ true → (X Q W : List ℕ) → Routes (edgesOf (h .edges) X) R → ChecksRows (rowsUpTo (view h X Q Z W) q (a .failed) (xs ++ (x ∷ []))) (r .outcome)
         unfolding NextResult
-        judged-more y X Q W w =
+        outcome-more y X Q W w =
             rw (rows-snoc (view h X Q Z W) q (a .failed) xs x)
-            (rw (t .same-failed) at (j .judged y X Q W w (rowsUpTo (view h X Q Z W) q (a .failed) xs) (t .judged g X Q W w)))
+            (rw (t .same-failed) at (j .outcome-is y X Q W w (rowsUpTo (view h X Q Z W) q (a .failed) xs) (t .outcome-is g X Q W w)))
 
         more-going : Checked h R T Z B a (xs ++ (x ∷ [])) r
         more-going = record {
           stopped = λ y. not-both k y;
           same-mask = j .same-mask ∙ t .same-mask;
           same-failed = j .same-failed ∙ t .same-failed;
-          formed = λ _. formed-more;
+          not-malformed = λ _. not-malformed-more;
           refused = λ _ y. j .refused y;
           last = λ y. j .last y ∙ sym (last-snoc 0 xs x);
           remote = λ y. j .remote y ∙ rw (t .remote g) (sym (remote-snoc xs x));
-          judged = judged-more;
+          outcome-is = outcome-more;
         }
 
       pub checked-more : Checked h R T Z B a (xs ++ (x ∷ [])) r
@@ -128,11 +128,11 @@ module _ (h : Header) (R T Z B : List ℕ) (a : ReplyCheck) (w : List ℕ) where
       pub checking-asks : b .going ≡ true → Checkable h R T Z B
       checking-asks g = still-checkable h R T Z B a d (emissionsOf i w) b (t .checked) g
 
-      pub checking-more : i < n → (e : Emission) → e ≡ emissionIn w (8 * i) → (r : ReplyCheck) → Checks h R T Z B b e r → Checking n (i + 1) r
+      pub checking-more : i < n → (e : Emission) → emissionOf e ≡ emissionIn w (8 * i) → (r : ReplyCheck) → Checks h R T Z B b e r → Checking n (i + 1) r
       unfolding emissionAt
       checking-more l e y r s = record {
         within = omega arith;
-        checked = rw (tab-push (emissionAt w) i) (subst (λ (z : Emission). Checked h R T Z B a (emissionsOf i w ++ (emissionOf z ∷ [])) r) y (checked-more h R T Z B a d (emissionsOf i w) b (t .checked) e r s));
+        checked = rw (tab-push (emissionAt w) i) (subst (λ (z : Rule.Emission). Checked h R T Z B a (emissionsOf i w ++ (z ∷ [])) r) y (checked-more h R T Z B a d (emissionsOf i w) b (t .checked) e r s));
       }
 
   pub checking-end : (n i : ℕ) (b : ReplyCheck) → n ≤ i → Checking n i b → Checked h R T Z B a (emissionsOf n w) b

@@ -5,11 +5,11 @@ use mathlib.Core.List.{List, append-nil}
 use mathlib.Core.Logic.{⊎-elim}
 use Prim.Native.Nat.{ℕ, _+_, _*_, _-_, _≤_, _<_}
 use native.Mathlib.Omega.{arith}
-use lib.Dec.{ltb}
+use lib.Dec.{ltb, eqb}
 use lib.ListN.{length, getD}
-use borrow.Author.Tests.{lt-ltb, le-ltb, eq-eqb, ne-eqb, eqb-false}
+use borrow.Author.Tests.{lt-ltb, le-ltb, eqb-false}
 use Rattle.types.specs.declared.SimTime.{SimTime}
-use Rattle.types.specs.Value.{ticksOf}
+use Rattle.types.specs.Value.{ticksOf, lpIdOf}
 use Rattle.types.proofs.Halves.{lt-or-ge}
 use Rattle.words.specs.Words.{tickAt}
 use Rattle.rules.specs.Base.{if_then_else_, any, anyOf}
@@ -34,13 +34,14 @@ use Rattle.hand_back_check.specs.EmissionRows.{counted, rowsOfNext}
 use Rattle.hand_back_check.specs.Checks.{Checkable, refusedWith, checkedAs, tickOf, NextResult, ChecksNext, Checks}
 
 -- How many are remote.
-pub at-home : (m : ℕ) (e : Emission) → e .destination ≡ e .source → m ≡ counted m (emissionOf e)
-unfolding counted if_then_else_
-at-home m e h = rw (eq-eqb (e .destination) (e .source) h)
+module _ (m : ℕ) (e : Emission) (x : Bool) (same : x ≡ eqb (lpIdOf (e .destination)) (lpIdOf (e .source))) where
+  pub at-home : x ≡ true → m ≡ counted m (emissionOf e)
+  unfolding counted if_then_else_
+  at-home h = rw (sym same ∙ h)
 
-pub remote : (m : ℕ) (e : Emission) (r : ℕ) → (e .destination ≡ e .source → ⊥) → r ≡ saturatingAdd m 1 → r ≡ counted m (emissionOf e)
-unfolding counted if_then_else_
-remote m e r h s = s ∙ rw (ne-eqb (e .destination) (e .source) h)
+  pub remote : x ≡ false → (r : ℕ) → r ≡ saturatingAdd m 1 → r ≡ counted m (emissionOf e)
+  unfolding counted if_then_else_
+  remote h r s = s ∙ rw (sym same ∙ h)
 
 -- The emitter of an emission that is not malformed is in the batch.
 emitting : (q : List Event) (mask last : ℕ) (x : Rule.Emission) → malformedEmission q mask last x ≡ false → not (inBatch q (x .emitter)) ≡ false
@@ -56,13 +57,13 @@ module _ (h : Header) (R T Z B : List ℕ) (a : ReplyCheck) (e : Emission) where
   unfolding NextResult
   stays-refused t x E Q W w rs j = checks-front rs _ (a .outcome) j x
 
-  stays-behind : (t : ℕ) → a .failed < e .emitter → NextResult h R Z t a e (a .outcome)
+  stays-behind : (t : ℕ) → a .failed < lpIdOf (e .emitter) → NextResult h R Z t a e (a .outcome)
   unfolding NextResult rowsOfNext if_then_else_
-  stays-behind t l E Q W w rs j = rw (lt-ltb (a .failed) (e .emitter) l, append-nil) j
+  stays-behind t l E Q W w rs j = rw (lt-ltb (a .failed) (lpIdOf (e .emitter)) l, append-nil) j
 
-  checks-it : a .outcome .passed ≡ true → e .emitter ≤ a .failed → (time : SimTime) → (v : CheckResult) → ChecksEmission h R Z e time v → NextResult h R Z (ticksOf time) a e v
+  checks-it : a .outcome .passed ≡ true → lpIdOf (e .emitter) ≤ a .failed → (time : SimTime) → (v : CheckResult) → ChecksEmission h R Z e time v → NextResult h R Z (ticksOf time) a e v
   unfolding NextResult rowsOfNext if_then_else_ ChecksEmission
-  checks-it x l time v j E Q W w rs k = rw (le-ltb (a .failed) (e .emitter) l) (checks-same _ _ v (same-behind rs _ (a .outcome) k x) (j E Q W w))
+  checks-it x l time v j E Q W w rs k = rw (le-ltb (a .failed) (lpIdOf (e .emitter)) l) (checks-same _ _ v (same-behind rs _ (a .outcome) k x) (j E Q W w))
 
   pub check-stopped : a .going ≡ false → Checks h R T Z B a e a
   check-stopped g = record { stopped = λ _. refl; next = λ y. not-both y g }
@@ -72,64 +73,66 @@ module _ (h : Header) (R T Z B : List ℕ) (a : ReplyCheck) (e : Emission) where
     unfolding MalformedEmission
     ill-is = ill q (s .places)
 
-    goes : (r : ReplyCheck) → ChecksNext h R T Z B a e r → Checks h R T Z B a e r
-    goes r n = record { stopped = λ y. not-both g y; next = λ _. n }
+    from-next : (r : ReplyCheck) → ChecksNext h R T Z B a e r → Checks h R T Z B a e r
+    from-next r n = record { stopped = λ y. not-both g y; next = λ _. n }
 
     pub check-malformed : x ≡ true → (r : ReplyCheck) → r ≡ refusedWith a P.MalformedReply → Checks h R T Z B a e r
-    check-malformed t r y = goes r (rw y (record {
+    check-malformed t r y = from-next r (rw y (record {
       same-mask = refl;
       same-failed = refl;
-      formed = ap not (sym t ∙ ill-is);
+      not-malformed = ap not (sym t ∙ ill-is);
       refused = λ _. refl;
       last = λ z. not-both z refl;
       remote = λ z. not-both z refl;
-      judged = λ z. not-both z refl;
+      outcome-is = λ z. not-both z refl;
     }))
 
-    module _ (f : x ≡ false) where
+    module _ (f : x ≡ false) (w : ℕ) (same : w ≡ lpIdOf (e .emitter)) where
       -- The emitter has an event in hand.
-      seat : getD T (e .emitter) 0 ≡ 0 → ⊥
-      seat = eqb-false (getD T (e .emitter) 0) 0 (sym (absent q T (e .emitter) (s .places)) ∙ emitting q (a .mask) (a .last) (emissionOf e) (sym ill-is ∙ f))
+      seat : getD T (lpIdOf (e .emitter)) 0 ≡ 0 → ⊥
+      seat = eqb-false (getD T (lpIdOf (e .emitter)) 0) 0 (sym (absent q T (lpIdOf (e .emitter)) (s .places)) ∙ emitting q (a .mask) (a .last) (emissionOf e) (sym ill-is ∙ f))
 
-      placed : getD T (e .emitter) 0 ≡ getD T (e .emitter) 0 - 1 + 1
+      placed : getD T (lpIdOf (e .emitter)) 0 ≡ getD T (lpIdOf (e .emitter)) 0 - 1 + 1
       placed = omega (arith, seat)
 
-      tick-is : tickOf T B (e .emitter) ≡ firstTick q (e .emitter) 0
+      tick-is : tickOf T B (lpIdOf (e .emitter)) ≡ firstTick q (lpIdOf (e .emitter)) 0
       unfolding firstTick tickOr
-      tick-is = let p = place-first B (h .batch) T (e .emitter) (getD T (e .emitter) 0 - 1) (s .places) placed in rw (p .1)
+      tick-is = let p = place-first B (h .batch) T (lpIdOf (e .emitter)) (getD T (lpIdOf (e .emitter)) 0 - 1) (s .places) placed in rw (p .1)
 
-      pub emitter-fits : e .emitter < 64
-      emitter-fits = ⊎-elim (λ (l : e .emitter < 64). l) (λ (l : 64 ≤ e .emitter). absurd (seat (past-end T (e .emitter) (s .place-words) l))) (lt-or-ge (e .emitter) 64)
+      pub emitter-fits : lpIdOf (e .emitter) < 64
+      emitter-fits = ⊎-elim (λ (l : lpIdOf (e .emitter) < 64). l) (λ (l : 64 ≤ lpIdOf (e .emitter)). absurd (seat (past-end T (lpIdOf (e .emitter)) (s .place-words) l))) (lt-or-ge (lpIdOf (e .emitter)) 64)
 
-      pub in-hand : (length T ≡ 64) × (length B ≡ 512) × (e .emitter < 64) × (0 < getD T (e .emitter) 0) × (getD T (e .emitter) 0 ≤ 64)
+      pub in-hand : (length T ≡ 64) × (length B ≡ 512) × (w < 64) × (0 < getD T w 0) × (getD T w 0 ≤ 64)
       in-hand =
-          let p = place-first B (h .batch) T (e .emitter) (getD T (e .emitter) 0 - 1) (s .places) placed in
-          (s .place-words, s .batch-words, emitter-fits, omega (arith, seat), omega (arith, p .0, s .few-batch))
+          let p = place-first B (h .batch) T (lpIdOf (e .emitter)) (getD T (lpIdOf (e .emitter)) 0 - 1) (s .places) placed in
+          rw same (s .place-words, s .batch-words, emitter-fits, omega (arith, seat), omega (arith, p .0, s .few-batch))
 
-      pub judgeable : CanCheck h R Z × (e .emitter < 64)
+      pub judgeable : CanCheck h R Z × (lpIdOf (e .emitter) < 64)
       judgeable = (record { few = s .few; route-words = s .route-words; horizon-words = s .horizon-words }, emitter-fits)
 
       module _ (m : ℕ) (c : m ≡ counted (a .remote) (emissionOf e)) where
-        next : (v : CheckResult) → NextResult h R Z (firstTick q (e .emitter) 0) a e v → (r : ReplyCheck) → r ≡ checkedAs a (e .emitter) m v → Checks h R T Z B a e r
-        next v n r y = goes r (rw y (record {
+        next : (v : CheckResult) → NextResult h R Z (firstTick q (lpIdOf (e .emitter)) 0) a e v → (r : ReplyCheck) → r ≡ checkedAs a w m v → Checks h R T Z B a e r
+        next v n r y = from-next r (rw y (record {
           same-mask = refl;
           same-failed = refl;
-          formed = g ∙ ap not (sym f ∙ ill-is);
+          not-malformed = g ∙ ap not (sym f ∙ ill-is);
           refused = λ z. not-both g z;
-          last = λ _. refl;
+          last = λ _. same;
           remote = λ _. c;
-          judged = λ _. n;
+          outcome-is = λ _. n;
         }))
 
-        pub check-refused : a .outcome .passed ≡ false → (r : ReplyCheck) → r ≡ checkedAs a (e .emitter) m (a .outcome) → Checks h R T Z B a e r
+        pub check-refused : a .outcome .passed ≡ false → (r : ReplyCheck) → r ≡ checkedAs a w m (a .outcome) → Checks h R T Z B a e r
         check-refused y r z = next (a .outcome) (stays-refused _ y) r z
 
-        pub check-behind : a .failed < e .emitter → (r : ReplyCheck) → r ≡ checkedAs a (e .emitter) m (a .outcome) → Checks h R T Z B a e r
-        check-behind l r z = next (a .outcome) (stays-behind _ l) r z
+        pub check-behind : a .failed < w → (r : ReplyCheck) → r ≡ checkedAs a w m (a .outcome) → Checks h R T Z B a e r
+        check-behind l r z = next (a .outcome) (stays-behind _ (rw same at l)) r z
 
-        pub check-checked : a .outcome .passed ≡ true → e .emitter ≤ a .failed → (time : SimTime) → ticksOf time ≡ tickOf T B (e .emitter) → (v : CheckResult) → ChecksEmission h R Z e time v
-            → (r : ReplyCheck) → r ≡ checkedAs a (e .emitter) m v → Checks h R T Z B a e r
-        check-checked y l time u v j r z = next v (rw (← tick-is, ← u) (checks-it y l time v j)) r z
+        pub check-checked : a .outcome .passed ≡ true → w ≤ a .failed → (time : SimTime) → ticksOf time ≡ tickOf T B w → (v : CheckResult) → ChecksEmission h R Z e time v
+            → (r : ReplyCheck) → r ≡ checkedAs a w m v → Checks h R T Z B a e r
+        check-checked y l time u v j r z =
+            let t : ticksOf time ≡ firstTick q (lpIdOf (e .emitter)) 0 = u ∙ ap (tickOf T B) same ∙ tick-is in
+            next v (rw (← t) (checks-it y (rw same at l) time v j)) r z
 
 -- The tick of an event in hand.
 pub ticked : (B : List ℕ) (k t : ℕ) → t ≡ tickAt B (8 * k + 1) → t ≡ eventAt B k .tick

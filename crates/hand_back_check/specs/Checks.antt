@@ -4,6 +4,7 @@ use mathlib.Core.Bool.{true, false, not}
 use mathlib.Core.List.{List, _++_}
 use Prim.Native.Nat.{ℕ, _-_, _≤_}
 use lib.ListN.{length, getD}
+use Rattle.types.specs.Value.{lpIdOf}
 use Rattle.rules.specs.Base.{count}
 use Rattle.rules.specs.State.{saturatingAdd}
 use Rattle.rules.specs.Rows.{Row}
@@ -55,11 +56,11 @@ NextResult h R Z t a e v = (E Q B : List ℕ) → Routes (edgesOf (h .edges) E) 
 pub record ChecksNext (h : Header) (R T Z B : List ℕ) (a : ReplyCheck) (e : W.Emission) (r : ReplyCheck) : Type 0 where
   pub same-mask : r .mask ≡ a .mask
   pub same-failed : r .failed ≡ a .failed
-  pub formed : r .going ≡ not (malformedEmission (eventsOf (h .batch) B) (a .mask) (a .last) (emissionOf e))
+  pub not-malformed : r .going ≡ not (malformedEmission (eventsOf (h .batch) B) (a .mask) (a .last) (emissionOf e))
   pub refused : r .going ≡ false → r .outcome .answer ≡ P.MalformedReply
-  pub last : r .going ≡ true → r .last ≡ e .emitter
+  pub last : r .going ≡ true → r .last ≡ lpIdOf (e .emitter)
   pub remote : r .going ≡ true → r .remote ≡ counted (a .remote) (emissionOf e)
-  pub judged : r .going ≡ true → NextResult h R Z (firstTick (eventsOf (h .batch) B) (e .emitter) 0) a e (r .outcome)
+  pub outcome-is : r .going ≡ true → NextResult h R Z (firstTick (eventsOf (h .batch) B) (lpIdOf (e .emitter)) 0) a e (r .outcome)
 
 pub record Checks (h : Header) (R T Z B : List ℕ) (a : ReplyCheck) (e : W.Emission) (r : ReplyCheck) : Type 0 where
   pub stopped : a .going ≡ false → r ≡ a
@@ -75,8 +76,8 @@ pub record Checked (h : Header) (R T Z B : List ℕ) (a : ReplyCheck) (xs : List
   pub stopped : a .going ≡ false → b ≡ a
   pub same-mask : b .mask ≡ a .mask
   pub same-failed : b .failed ≡ a .failed
-  pub formed : a .going ≡ true → b .going ≡ not (anyMalformedEmission (eventsOf (h .batch) B) (a .mask) 0 xs)
+  pub not-malformed : a .going ≡ true → b .going ≡ not (anyMalformedEmission (eventsOf (h .batch) B) (a .mask) 0 xs)
   pub refused : a .going ≡ true → b .going ≡ false → b .outcome .answer ≡ P.MalformedReply
   pub last : b .going ≡ true → b .last ≡ lastOf 0 xs
   pub remote : b .going ≡ true → b .remote ≡ saturatingAdd 0 (count isRemote xs)
-  pub judged : b .going ≡ true → (X Q W : List ℕ) → Routes (edgesOf (h .edges) X) R → ChecksRows (rowsUpTo (view h X Q Z W) (eventsOf (h .batch) B) (a .failed) xs) (b .outcome)
+  pub outcome-is : b .going ≡ true → (X Q W : List ℕ) → Routes (edgesOf (h .edges) X) R → ChecksRows (rowsUpTo (view h X Q Z W) (eventsOf (h .batch) B) (a .failed) xs) (b .outcome)

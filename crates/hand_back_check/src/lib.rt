@@ -83,7 +83,7 @@ pub fn first_failed(batch: &[u64], count: usize, mask: u64) -> u64
 fn count_remote(remote: u64, e: Emission) -> u64
     ensures { λ r. ⌜ r ≡ counted remote (emissionOf e) ⌝ }
 {
-    if e.destination == e.source {
+    if e.destination.eq(e.source) {
         return remote;
     }
     state::saturating_add(remote, 1)
@@ -129,17 +129,18 @@ pub fn check<'a>(
     if reply_words::malformed_emission(e, a.last, a.mask, places) {
         return refuse(a, Answer::MalformedReply);
     }
+    let emitter = e.emitter.to_word();
     let remote = count_remote(a.remote, e);
     let so_far = a.outcome;
     if !so_far.passed {
-        return checked(a, e.emitter, remote, so_far);
+        return checked(a, emitter, remote, so_far);
     }
-    if a.failed < e.emitter {
-        return checked(a, e.emitter, remote, so_far);
+    if a.failed < emitter {
+        return checked(a, emitter, remote, so_far);
     }
-    let time = tick_of(places, batch, e.emitter);
+    let time = tick_of(places, batch, emitter);
     let verdict = hand_back_emission::check_emission(head, routes, horizons, e, time);
-    checked(a, e.emitter, remote, verdict)
+    checked(a, emitter, remote, verdict)
 }
 
 // The emissions of a reply in words, each in turn.

@@ -9,6 +9,9 @@ use denote.Enum.Declared.{tagOf}
 use lib.Dec.{ltb}
 use lib.ListN.{length}
 use borrow.Author.Tests.{lt-ltb, le-ltb, ltb-true, ltb-false}
+use Rattle.types.specs.declared.LpId.{LpId}
+use Rattle.types.specs.Value.{lpIdOf, idOfWord}
+use Rattle.types.proofs.Ids.{id-of-small}
 use Rattle.rules.specs.Base.{if_then_else_, upTo, any, anyOf, count}
 use Rattle.rules.specs.State.{Event, saturatingAdd, maxCount, maxProcesses, maxPending}
 use Rattle.rules.specs.Rows.{Row, unless}
@@ -56,7 +59,7 @@ module _ (a : ReplyCheck) where
   word-refused x = record { decides = λ rs j. checks-front rs _ (a .outcome) j x; sound-before = λ y. y; none-failed = λ y. not-both y x }
 
   module _ (x : a .outcome .passed ≡ true) where
-    word-failed : a .failed < 64 → Word a (refusing (P.HandlerFailed (a .failed)))
+    word-failed : a .failed < 64 → Word a (refusing (P.HandlerFailed (record { 0 = a .failed })))
     word-failed l = record {
       decides = λ rs j. checks-same _ _ _ (same-behind rs _ (a .outcome) j x) (struck _ [] _ (lt-ltb (a .failed) 64 l) (λ es. refl));
       sound-before = λ _. x;
@@ -112,14 +115,14 @@ module _ (h : Header) (c : Counters) (E Q Z B : List ℕ) (a : ReplyCheck) (k : 
 
   module _ (mask : ℕ) (xs : List Emission) (t : ReplyChecked h E Q Z B a mask k xs) where
     judges : ChecksRows (processRows (view h E Q Z B) mask xs (eventsOf (h .batch) B)) v
-    judges = checks-same _ _ v (rows-alike (view h E Q Z B) mask (eventsOf (h .batch) B) xs (well-formed _ mask xs (batch-order h E Q Z B (l .passes)) (t .formed)) placed (well _ mask xs (t .formed))) (rw (t .failed-is) at (w .decides _ (t .judged)))
+    judges = checks-same _ _ v (rows-alike (view h E Q Z B) mask (eventsOf (h .batch) B) xs (well-formed _ mask xs (batch-order h E Q Z B (l .passes)) (t .not-malformed)) placed (well _ mask xs (t .not-malformed))) (rw (t .failed-is) at (w .decides _ (t .outcome-is)))
 
     on : v .passed ≡ true → (r : CoreResult) (Q′ Z′ B′ : List ℕ) → Settles h c E Q Z B xs r Q′ Z′ B′ → HandsBack h c E Q Z B mask xs r Q′ Z′ B′
-    on x = back-settled h c E Q Z B mask xs l (g .healthy) none (t .formed) v judges x
+    on x = back-settled h c E Q Z B mask xs l (g .healthy) none (t .not-malformed) v judges x
 
   finish-lost : v .passed ≡ false → (r : CoreResult) (B′ : List ℕ) → Poisons (v .answer) h c r → Finishes h c E Q Z B a k r Q Z B′
   unfolding Finishes
-  finish-lost x r B′ d mask xs t = back-lost h c E Q Z B mask xs l (g .healthy) none (t .formed) v (judges mask xs t) x r B′ d
+  finish-lost x r B′ d mask xs t = back-lost h c E Q Z B mask xs l (g .healthy) none (t .not-malformed) v (judges mask xs t) x r B′ d
 
   module _ (x : v .passed ≡ true) where
     finish-late : (r : CoreResult) (B′ : List ℕ) → maxCount < h .next + k → Poisons P.EventSequenceOverflow h c r → Finishes h c E Q Z B a k r Q Z B′
@@ -139,9 +142,9 @@ module _ (h : Header) (c : Counters) (E Q Z B : List ℕ) (a : ReplyCheck) (k : 
 
 -- What the program's functions give.
 module _ (failed next pending k : ℕ) where
-  pub refusal-27 : failed < 64 → P.HandlerFailed failed ≡ refusalOf failed next pending k
+  pub refusal-27 : failed < 64 → (p : LpId) → lpIdOf p ≡ idOfWord failed → P.HandlerFailed p ≡ refusalOf failed next pending k
   unfolding refusalOf if_then_else_
-  refusal-27 l = rw (lt-ltb failed 64 l)
+  refusal-27 l p e = rw (lt-ltb failed 64 l) (λ i. P.HandlerFailed (record { 0 = (e ∙ id-of-small failed (omega arith)) i }))
 
   module _ (f : 64 ≤ failed) (x : Bool) (ex : x ≡ ltb maxCount (next + k)) where
     pub refusal-19 : x ≡ true → P.EventSequenceOverflow ≡ refusalOf failed next pending k

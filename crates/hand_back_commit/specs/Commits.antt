@@ -35,9 +35,9 @@ pub record InHand (h : Header) (edges pending horizons batch : List ℕ) : Type 
 -- The k emissions xs of a reply are checked, and a says how far: the reply is not malformed.
 pub record ReplyChecked (h : Header) (edges pending horizons batch : List ℕ) (a : ReplyCheck) (mask k : ℕ) (xs : List Emission) : Type 0 where
   pub number : length xs ≡ k
-  pub formed : malformed (eventsOf (h .batch) batch) mask xs ≡ false
+  pub not-malformed : malformed (eventsOf (h .batch) batch) mask xs ≡ false
   pub failed-is : a .failed ≡ firstFailed mask (eventsOf (h .batch) batch)
-  pub judged : ChecksRows (rowsUpTo (view h edges pending horizons batch) (eventsOf (h .batch) batch) (a .failed) xs) (a .outcome)
+  pub outcome-is : ChecksRows (rowsUpTo (view h edges pending horizons batch) (eventsOf (h .batch) batch) (a .failed) xs) (a .outcome)
   pub remote : a .remote ≡ saturatingAdd 0 (count isRemote xs)
 
 -- What is left is what the rules' hand back of the checked emissions leaves.
@@ -52,7 +52,7 @@ pub record Fits (next pending k : ℕ) : Type 0 where
 -- The answer of 27, 19 and 18.
 unfoldable pub refusalOf : ℕ → ℕ → ℕ → ℕ → Answer
 refusalOf failed next pending k =
-    if ltb failed 64 then P.HandlerFailed failed
+    if ltb failed 64 then P.HandlerFailed (record { 0 = failed })
     else if ltb maxCount (next + k) then P.EventSequenceOverflow
     else if ltb maxPending (pending + k) then P.QueueFull
     else P.Accepted

@@ -6,6 +6,7 @@ use state::Answer;
 use state::CoreResult;
 use state::Counters;
 use state::Header;
+use types::LpId;
 use types::MAX_PROCESSES;
 ghost use mathlib.Core.Path.{_≡_};
 ghost use Prim.Native.Nat.{_+_, _*_, _≤_};
@@ -19,7 +20,7 @@ fn refusal(failed: u64, next: u64, pending: usize, emitted: usize) -> Answer
     ensures { λ r. ⌜ r ≡ refusalOf failed next pending emitted ⌝ }
 {
     if failed < MAX_PROCESSES {
-        return Answer::HandlerFailed(failed);
+        return Answer::HandlerFailed(LpId::from_word(failed));
     }
     if state::sequence_exhausted(next, emitted as u64) {
         return Answer::EventSequenceOverflow;

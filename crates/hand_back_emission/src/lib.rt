@@ -8,7 +8,7 @@ use types::SimTime;
 ghost use mathlib.Core.Path.{_≡_};
 ghost use Prim.Native.Nat.{_*_, _<_};
 ghost use lib.ListN.{length};
-ghost use Rattle.types.specs.Value.{ticksOf, durationOf, IsSum};
+ghost use Rattle.types.specs.Value.{ticksOf, durationOf, lpIdOf, IsSum};
 ghost use Rattle.words.specs.Words.{tickAt};
 ghost use Rattle.rules.specs.HandBack.{minimum};
 ghost use Rattle.reply_words.specs.Emissions.{emissionOf};
@@ -22,9 +22,9 @@ pub struct CheckResult {
 
 // "The minimum tick is the event's tick for an emission to oneself, else that tick + L."
 fn minimum_tick(e: Emission, time: SimTime, lookahead: SimDuration) -> Added
-    ensures { λ r. ⌜ IsSum (minimum (durationOf lookahead) (e .emitter) (ticksOf time) (emissionOf e .message)) r ⌝ }
+    ensures { λ r. ⌜ IsSum (minimum (durationOf lookahead) (lpIdOf (e .emitter)) (ticksOf time) (emissionOf e .message)) r ⌝ }
 {
-    if e.destination == e.emitter {
+    if e.destination.eq(e.emitter) {
         return Added::Sum(time);
     }
     time.checked_add(lookahead)
@@ -32,21 +32,24 @@ fn minimum_tick(e: Emission, time: SimTime, lookahead: SimDuration) -> Added
 
 // 32 and 33 of an emission whose minimum is `least`.
 fn check_tick(horizons: &[u64], e: Emission, time: SimTime, least: SimTime) -> CheckResult
-    requires { ⌜ (length (now horizons) ≡ 128) × (e .destination < 64) ⌝ }
-    ensures { λ r. ⌜ ChecksRows (tickRows (emissionOf e) (ticksOf time) (ticksOf least) (tickAt (now (horizons .entry)) (2 * e .destination))) r ⌝ }
+    requires { ⌜ (length (now horizons) ≡ 128) × (lpIdOf (e .destination) < 64) ⌝ }
+    ensures { λ r. ⌜ ChecksRows (tickRows (emissionOf e) (ticksOf time) (ticksOf least) (tickAt (now (horizons .entry)) (2 * lpIdOf (e .destination)))) r ⌝ }
 {
     let tick = e.tick;
-    let local = words::tick_in(horizons, 2 * e.destination as usize);
+    let emitter = e.emitter;
+    let destination = e.destination;
+    let to = destination.to_word();
+    let local = words::tick_in(horizons, 2 * to as usize);
     if tick.lt(least) {
         return CheckResult {
             passed: false,
-            answer: Answer::OutboundLookaheadViolation(e.emitter, time, tick, least),
+            answer: Answer::OutboundLookaheadViolation(emitter, time, tick, least),
         };
     }
     if tick.lt(local) {
         return CheckResult {
             passed: false,
-            answer: Answer::Straggler(e.destination, tick, local),
+            answer: Answer::Straggler(destination, tick, local),
         };
     }
     CheckResult {
@@ -55,8 +58,8 @@ fn check_tick(horizons: &[u64], e: Emission, time: SimTime, least: SimTime) -> C
     }
 }
 
-// 28 to 33 of one emission of the process e.emitter, whose event has the tick `time`; `routes` is the
-// table that `edges` finds.
+// 28 to 33 of one emission, whose emitter's event has the tick `time`; `routes` is the table that
+// `edges` finds.
 pub fn check_emission<'a>(
     head: Header,
     routes: &'a [u64],
@@ -64,26 +67,30 @@ pub fn check_emission<'a>(
     e: Emission,
     time: SimTime,
 ) -> CheckResult
-    requires { ⌜ CanCheck head (now routes) (now horizons) × (e .emitter < 64) ⌝ }
+    requires { ⌜ CanCheck head (now routes) (now horizons) × (lpIdOf (e .emitter) < 64) ⌝ }
     ensures { λ r. ⌜ ChecksEmission head (now (routes .entry)) (now (horizons .entry)) e time r ⌝ }
 {
-    if e.source != e.emitter {
+    let emitter = e.emitter;
+    let source = e.source;
+    if !source.eq(emitter) {
         return CheckResult {
             passed: false,
-            answer: Answer::OutboundSourceMismatch(e.emitter, e.source),
+            answer: Answer::OutboundSourceMismatch(emitter, source),
         };
     }
     let n = head.n as u64;
-    if n <= e.destination {
+    let destination = e.destination;
+    let to = destination.to_word();
+    if n <= to {
         return CheckResult {
             passed: false,
-            answer: Answer::UnknownOutboundDestination(e.destination),
+            answer: Answer::UnknownOutboundDestination(destination),
         };
     }
-    if !edges::has_route_in(routes, e.emitter, e.destination) {
+    if !edges::has_route_in(routes, emitter.to_word(), to) {
         return CheckResult {
             passed: false,
-            answer: Answer::OutboundRouteMissing(e.emitter, e.destination),
+            answer: Answer::OutboundRouteMissing(emitter, destination),
         };
     }
     let lookahead = head.lookahead;
@@ -92,7 +99,7 @@ pub fn check_emission<'a>(
         Added::Sum(t) => check_tick(horizons, e, time, t),
         Added::Overflow => CheckResult {
             passed: false,
-            answer: Answer::LookaheadOverflow(e.emitter, time, lookahead),
+            answer: Answer::LookaheadOverflow(emitter, time, lookahead),
         },
     }
 }

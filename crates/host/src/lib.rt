@@ -45,22 +45,22 @@ pub fn build<'a>(
 ) -> HostBuildResult
     ensures { λ r. ⌜ Builds (setup n (durationOf lookahead) (now (ids .entry)) (now (sources .entry)) (now (counts .entry)) (now (destinations .entry))) (now (counters .entry)) (buildResultOf r (now (counters .exit))) ⌝ }
 {
-    let r = runtime::build(n, lookahead, ids, sources, counts, destinations, *counters);
-    *counters = r.counters;
+    let built = runtime::build(n, lookahead, ids, sources, counts, destinations, *counters);
+    *counters = built.counters;
     HostBuildResult {
-        answer: r.answer,
-        state: r.state,
+        answer: built.answer,
+        state: built.state,
     }
 }
 
 pub fn add_initial(state: Runtime, counters: &mut Counters, m: Message) -> HostCallResult
     ensures { λ r. ⌜ Executes (AddInitial (messageOf m)) state (now (counters .entry)) (r .answer) (r .state) (now (counters .exit)) ⌝ }
 {
-    let r = runtime::add_initial(state, *counters, m);
-    *counters = r.counters;
+    let added = runtime::add_initial(state, *counters, m);
+    *counters = added.counters;
     HostCallResult {
-        answer: r.answer,
-        state: r.state,
+        answer: added.answer,
+        state: added.state,
     }
 }
 
@@ -72,27 +72,28 @@ pub fn begin(
 ) -> HostCallResult
     ensures { λ r. ⌜ Executes (Begin (ticksOf horizon) budget) state (now (counters .entry)) (r .answer) (r .state) (now (counters .exit)) ⌝ }
 {
-    let r = runtime::begin(state, *counters, horizon, budget);
-    *counters = r.counters;
+    let begun = runtime::begin(state, *counters, horizon, budget);
+    *counters = begun.counters;
     HostCallResult {
-        answer: r.answer,
-        state: r.state,
+        answer: begun.answer,
+        state: begun.state,
     }
 }
 
 pub fn step(state: Runtime, counters: &mut Counters) -> HostCallResult
     ensures { λ r. ⌜ Executes Step state (now (counters .entry)) (r .answer) (r .state) (now (counters .exit)) ⌝ }
 {
-    let r = runtime::step(state, *counters);
-    *counters = r.counters;
+    let stepped = runtime::step(state, *counters);
+    *counters = stepped.counters;
     HostCallResult {
-        answer: r.answer,
-        state: r.state,
+        answer: stepped.answer,
+        state: stepped.state,
     }
 }
 
 // The reply is "a mask of failed processes and a lent list of emission records, each with its
-// emitter", of any length: its emissions are passed twice, to be checked and to be queued.
+// emitter", of any length: its emissions are passed twice, to be checked and to be queued, straight
+// into the pending words of the state that is left.
 pub fn hand_back(
     state: Runtime,
     counters: &mut Counters,
@@ -102,14 +103,16 @@ pub fn hand_back(
     ensures { λ r. ⌜ Executes (HandBack mask (replyOf (now (reply .entry)))) state (now (counters .entry)) (r .answer) (r .state) (now (counters .exit)) ⌝ }
 {
     let opened = host_hand_back::open(state, mask);
-    let scan = host_reply::check_records(reply, opened);
-    let queue = host_hand_back::admit(state, scan, reply.len());
-    let queued = host_reply::enqueue_records(reply, queue);
-    let r = host_hand_back::close(state, *counters, scan, queued, reply.len());
-    *counters = r.counters;
+    let start = opened.scan;
+    let scan = host_reply::check_records(reply, &opened.words, start);
+    let admission = host_hand_back::admit(scan, reply.len());
+    let mut left = state;
+    let queued = host_reply::enqueue_records(reply, &mut left.pending, admission);
+    let closed = host_hand_back::close(left, *counters, scan, queued, reply.len());
+    *counters = closed.counters;
     HostCallResult {
-        answer: r.answer,
-        state: r.state,
+        answer: closed.answer,
+        state: closed.state,
     }
 }
 

@@ -1,15 +1,14 @@
 -- What each return of the parts before the first pass gives.
-use mathlib.Core.Path.{_≡_, refl, sym, ap, _∙_}
+use mathlib.Core.Path.{_≡_, refl}
 use mathlib.Core.Bool.{Bool, true, false}
 use mathlib.Core.List.{List}
 use Prim.Native.Nat.{ℕ}
 use lib.ListN.{length}
 use Rattle.rules.specs.HandBack as Rule
 use Rattle.rules.specs.Calls.{HandBack}
-use Rattle.rules.specs.Foreign.{foreign}
 use Rattle.rules.proofs.Tests.{not-both}
 use Rattle.hand_back_check.specs.declared.ReplyCheck.{ReplyCheck}
-use Rattle.hand_back_check.specs.Checks.{refusedWith, CheckStarted}
+use Rattle.hand_back_check.specs.Checks.{refusedWith}
 use Rattle.hand_back_commit.specs.HandsBack.{HandsBack}
 use Rattle.hand_back.specs.ReplyChecks.{asGivenTo, Ready, Begins}
 use Rattle.hand_back.proofs.ReplyChecking as Review
@@ -18,12 +17,11 @@ use Rattle.state.specs.declared.Runtime.{Runtime}
 use Rattle.state.specs.declared.Counters.{Counters}
 use Rattle.state.specs.declared.Answer.the-variants as P
 use Rattle.state.specs.ValidArrays.{ValidArrays}
-use Rattle.state.specs.View.{viewOf}
 use Rattle.foreign.specs.Tests.{IsForeign}
 use Rattle.foreign.proofs.Grouped.{judged}
 use Rattle.runtime.specs.Executes.{Executes}
 use Rattle.runtime.proofs.Executing.{carries-foreign, carries-back}
-use Rattle.host_hand_back.specs.Passes.{tablesOf, Sizes, routesIn, placesIn, horizonsIn, batchIn}
+use Rattle.host_hand_back.specs.Passes.{tablesOf, Sizes, routesIn, placesIn}
 use Rattle.host_hand_back.specs.Parts.{runtimeOf, openedOf, Tabled, Opens}
 use Rattle.host_hand_back.proofs.Filling.{routes-there, places-there, horizons-there, batch-there}
 

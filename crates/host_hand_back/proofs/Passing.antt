@@ -1,18 +1,15 @@
 -- The two passes over emission records, emission by emission.
-use mathlib.Core.Path.{_≡_, refl, sym, ap, subst, _∙_}
+use mathlib.Core.Path.{_≡_, refl, sym, _∙_}
 use mathlib.Core.Bool.{true, false}
 use mathlib.Core.List.{List, [], _∷_, _++_}
-use Prim.Native.Nat.{ℕ, _+_, _≤_, _<_}
-use native.Mathlib.Omega.{arith}
+use Prim.Native.Nat.{ℕ, _+_, _<_}
 use lib.ListN.{length, length-map}
 use Rattle.rules.proofs.Tests.{not-both}
 use Rattle.reply_words.specs.declared.Emission.{Emission}
 use Rattle.reply_words.specs.Emissions.{emissionOf}
 use Rattle.hand_back_enqueue.specs.declared.Tail.{Tail}
 use Rattle.hand_back_enqueue.specs.Enqueued.{Enqueued}
-use Rattle.hand_back_enqueue.specs.Enqueued as Enqueue
 use Rattle.hand_back_enqueue.proofs.Enqueueing.{map-snoc, enqueued-none, enqueued-asks, enqueued-more}
-use Rattle.hand_back_check.specs.Checks.{Checks, Checked}
 use Rattle.hand_back_check.proofs.Checking.{checked-start, still-checkable, checked-more}
 use Rattle.host_hand_back.specs.declared.Scan.{Scan}
 use Rattle.host_hand_back.specs.declared.Admission.{Admission}
@@ -36,7 +33,7 @@ module _ (D : List ℕ) (a : Scan) (d : Begun D a) where
 -- The second pass.
 module _ (w : List ℕ) (a : Admission) where
   pub queued-start : Queued w a [] w a
-  queued-start = record { same-admitted = refl; same-verdict = refl; queued = λ _. enqueued-none (a .tail) w }
+  queued-start = record { same-admitted = refl; same-verdict = refl; queued = λ _. enqueued-none (a .tail) w; untouched = λ _. refl }
 
   module _ (ys : List Emission) (u : List ℕ) (b : Admission) (t : Queued w a ys u b) where
     pub queued-asks : (zs : List Emission) → Admitted w a zs → length ys < length zs → Enqueueable u b
@@ -49,11 +46,12 @@ module _ (w : List ℕ) (a : Admission) where
       same-admitted = s .same-admitted ∙ t .same-admitted;
       same-verdict = s .same-verdict ∙ t .same-verdict;
       queued = λ g. rw (map-snoc emissionOf ys e) (enqueued-more (a .tail) w (replyOf ys) (b .tail) u (t .queued g) (emissionOf e) (r .tail) v (s .queued (t .same-admitted ∙ g)));
+      untouched = λ g. s .untouched (t .same-admitted ∙ g) ∙ t .untouched g;
     }
 
 -- What each return of one turn of it gives.
-pub turned-away : (w : List ℕ) (a : Admission) (e : Emission) → a .admitted ≡ false → EnqueuesNext w a e w a
-turned-away w a e f = record { same-admitted = refl; same-verdict = refl; queued = λ g. not-both g f }
+pub enqueues-nothing : (w : List ℕ) (a : Admission) (e : Emission) → a .admitted ≡ false → EnqueuesNext w a e w a
+enqueues-nothing w a e f = record { same-admitted = refl; same-verdict = refl; queued = λ g. not-both g f; untouched = λ _. refl }
 
-pub taken-in : (w : List ℕ) (a : Admission) (e : Emission) → a .admitted ≡ true → (t : Tail) (u : List ℕ) → Enqueued (a .tail) (emissionOf e ∷ []) w t u → EnqueuesNext w a e u (record { admitted = true; outcome = a .outcome; tail = t })
-taken-in w a e g t u q = record { same-admitted = sym g; same-verdict = refl; queued = λ _. q }
+pub enqueues-one : (w : List ℕ) (a : Admission) (e : Emission) → a .admitted ≡ true → (t : Tail) (u : List ℕ) → Enqueued (a .tail) (emissionOf e ∷ []) w t u → EnqueuesNext w a e u (record { admitted = true; outcome = a .outcome; tail = t })
+enqueues-one w a e g t u q = record { same-admitted = sym g; same-verdict = refl; queued = λ _. q; untouched = λ f. not-both g f }

@@ -2,14 +2,14 @@
 use mathlib.Core.Path.{_≡_}
 use mathlib.Core.Bool.{true, false}
 use mathlib.Core.List.{List}
-use Prim.Native.Nat.{ℕ}
+use Prim.Native.Nat.{ℕ, _*_, _≤_}
 use lib.ListN.{length}
 use Rattle.rules.specs.HandBack as Rule
 use Rattle.rules.specs.Calls.{HandBack}
 use Rattle.reply_words.specs.declared.Emission.{Emission}
 use Rattle.hand_back_check.specs.declared.ReplyCheck.{ReplyCheck}
 use Rattle.hand_back_end.specs.EndsRound.{Poisons}
-use Rattle.hand_back_commit.specs.Commits.{InHand, Fits, FinalCheck, Ends}
+use Rattle.hand_back_commit.specs.Commits.{FinalCheck, CanEnd, Ends}
 use Rattle.hand_back.specs.ReplyChecks.{Begins}
 use Rattle.state.specs.declared.Header.{Header}
 use Rattle.state.specs.declared.Runtime.{Runtime}
@@ -22,8 +22,7 @@ use Rattle.runtime.specs.Executes.{Executes}
 use Rattle.host_hand_back.specs.declared.Scan.{Scan}
 use Rattle.host_hand_back.specs.declared.Opened.{Opened}
 use Rattle.host_hand_back.specs.declared.Admission.{Admission}
-use Rattle.host_hand_back.specs.declared.Queue.{Queue}
-use Rattle.host_hand_back.specs.Passes.{replyOf, routesIn, placesIn, horizonsIn, batchIn, Begun, Scanned, Admitted, Queued}
+use Rattle.host_hand_back.specs.Passes.{replyOf, routesIn, placesIn, horizonsIn, batchIn, Begun, Scanned, Queued}
 
 -- A runtime by its parts, and where the first pass of a reply to it starts.
 abbrev pub runtimeOf : Header → List ℕ → List ℕ → List ℕ → List ℕ → Runtime
@@ -47,40 +46,40 @@ pub record Opens (s : Runtime) (mask : ℕ) (o : Opened) : Type 0 where
   pub tabled : o .scan .check .going ≡ true → Tabled (s .head) (s .edges) (s .horizons) (s .batch) mask (o .scan .check) (o .words)
 
 -- What 27 to 33, 19 and 18 say of k emissions, and where the first of them would go.
-pub record Judges (a : ReplyCheck) (h : Header) (k : ℕ) (r : Admission) : Type 0 where
+pub record AdmissionOf (a : ReplyCheck) (h : Header) (k : ℕ) (r : Admission) : Type 0 where
   pub tail : r .tail ≡ record { count = h .pending; next = h .next }
   pub stopped : a .going ≡ false → r .admitted ≡ false
   pub admits : a .going ≡ true → r .admitted ≡ r .outcome .passed
   pub checked : a .going ≡ true → FinalCheck a (h .next) (h .pending) k (r .outcome)
 
-pub record Admits (s : Runtime) (a : Scan) (k : ℕ) (q : Queue) : Type 0 where
-  pub words-are : q .words ≡ s .pending
-  pub judges : Judges (a .check) (s .head) k (q .admission)
-
 -- The answer that the check came to, with state and counters as given.
 abbrev pub givenBack : Runtime → Counters → ReplyCheck → CallResult
 givenBack s c a = record { answer = a .outcome .answer; state = s; counters = c }
 
--- What closing asks: where the check went on, a batch is in hand, and a round that is admitted has room.
-pub record Closable (s : Runtime) (a : Scan) (q : Queue) (k : ℕ) : Type 0 where
-  pub in-hand : a .check .going ≡ true → InHand (s .head) (s .edges) (s .pending) (s .horizons) (s .batch)
-  pub fits : a .check .going ≡ true → q .admission .outcome .passed ≡ true → Fits (s .head .next) (s .head .pending) k
+-- What closing asks, with the emissions queued: that the round can be lost where the check went on, and that it can end where it is admitted.
+pub record Closable (s : Runtime) (a : Scan) (b : Admission) (k : ℕ) : Type 0 where
+  pub batch-words : a .check .going ≡ true → 8 * s .head .batch ≤ length (s .batch)
+  pub can-end : a .check .going ≡ true → b .outcome .passed ≡ true → CanEnd (s .head) (s .edges) (s .pending) (s .horizons) (s .batch) k
 
 -- What a call leaves, as a core would.
 abbrev pub afterOf : CallResult → CoreResult
 afterOf r = record { answer = r .answer; head = r .state .head; counters = r .counters }
 
--- The round is ended, with the pending words of q.
-pub record CommitsTo (s : Runtime) (c : Counters) (a : ReplyCheck) (q : Queue) (k : ℕ) (r : CallResult) : Type 0 where
-  pub left : r .state ≡ record { edges = s .edges; pending = q .words; horizons = r .state .horizons; batch = r .state .batch; head = r .state .head }
-  pub ends : Ends (s .head) c (s .edges) (q .words) (s .horizons) (s .batch) (a .remote) k (afterOf r) (r .state .horizons) (r .state .batch)
+-- The round is ended, with its emissions in the pending words of s.
+pub record CommitsTo (s : Runtime) (c : Counters) (a : ReplyCheck) (k : ℕ) (r : CallResult) : Type 0 where
+  pub left : r .state ≡ record { edges = s .edges; pending = s .pending; horizons = r .state .horizons; batch = r .state .batch; head = r .state .head }
+  pub ends : Ends (s .head) c (s .edges) (s .pending) (s .horizons) (s .batch) (a .remote) k (afterOf r) (r .state .horizons) (r .state .batch)
 
 -- The round is lost with the answer x.
-pub record LosesTo (s : Runtime) (c : Counters) (x : Answer) (r : CallResult) : Type 0 where
+pub record PoisonsTo (s : Runtime) (c : Counters) (x : Answer) (r : CallResult) : Type 0 where
   pub left : r .state ≡ record { edges = s .edges; pending = s .pending; horizons = s .horizons; batch = r .state .batch; head = r .state .head }
-  pub loses : Poisons x (s .head) c (afterOf r)
+  pub poisons : Poisons x (s .head) c (afterOf r)
 
--- If the k emissions ys were passed twice, the call is hand back of them.
-unfoldable pub Closes : Runtime → Counters → Scan → Queue → ℕ → CallResult → Type 0
-Closes s c a q k r = (mask : ℕ) (o : Opened) (ys : List Emission) (p : Queue) → Opens s mask o → Scanned (o .words) (o .scan) ys a → Admits s a k p → Queued (p .words) (p .admission) ys (q .words) (q .admission)
-    → length ys ≡ k → Executes (HandBack mask (replyOf ys)) s c (r .answer) (r .state) (r .counters)
+-- The runtime s with the pending words Q.
+abbrev pub withPending : Runtime → List ℕ → Runtime
+withPending s Q = runtimeOf (s .head) (s .edges) Q (s .horizons) (s .batch)
+
+-- If the k emissions ys were passed twice, which made the pending words of s out of Q, the call is hand back of them to the runtime with the pending words Q.
+unfoldable pub Closes : Runtime → Counters → Scan → Admission → ℕ → CallResult → Type 0
+Closes s c a b k r = (Q : List ℕ) (mask : ℕ) (o : Opened) (ys : List Emission) (p : Admission) → Opens (withPending s Q) mask o → Scanned (o .words) (o .scan) ys a → AdmissionOf (a .check) (a .head) k p → Queued Q p ys (s .pending) b
+    → length ys ≡ k → Executes (HandBack mask (replyOf ys)) (withPending s Q) c (r .answer) (r .state) (r .counters)

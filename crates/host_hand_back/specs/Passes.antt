@@ -1,6 +1,6 @@
 -- The two passes over a reply of emission records: the words that they read and write, and how far each has come.
 use mathlib.Core.Path.{_≡_}
-use mathlib.Core.Bool.{true}
+use mathlib.Core.Bool.{true, false}
 use mathlib.Core.List.{List, [], _∷_, _++_, map}
 use Prim.Native.Nat.{ℕ, _+_}
 use lib.ListN.{length, take, drop}
@@ -12,9 +12,7 @@ use Rattle.hand_back_enqueue.specs.Enqueued.{Enqueued}
 use Rattle.hand_back_check.specs.Checks as Check
 use Rattle.hand_back_check.specs.Checks.{Checks, Checked}
 use Rattle.host_hand_back.specs.declared.Scan.{Scan}
-use Rattle.host_hand_back.specs.declared.Opened.{Opened}
 use Rattle.host_hand_back.specs.declared.Admission.{Admission}
-use Rattle.host_hand_back.specs.declared.Queue.{Queue}
 
 -- The emissions of a reply of records, as the rules have them.
 abbrev pub replyOf : List Emission → List Rule.Emission
@@ -62,7 +60,7 @@ pub record Scanned (D : List ℕ) (a : Scan) (ys : List Emission) (r : Scan) : T
   pub same-head : r .head ≡ a .head
   pub checked : Checked (a .head) (routesIn D) (placesIn D) (horizonsIn D) (batchIn D) (a .check) (replyOf ys) (r .check)
 
--- What queueing an emission asks of the pending words, and what it leaves.
+-- What queueing an emission asks of the pending words, and what it leaves: the words as they were, where the round is not admitted.
 abbrev pub Enqueueable : List ℕ → Admission → Type 0
 Enqueueable w a = a .admitted ≡ true → Enqueue.Enqueueable (a .tail) 1 w
 
@@ -70,6 +68,7 @@ pub record EnqueuesNext (w : List ℕ) (a : Admission) (e : Emission) (u : List 
   pub same-admitted : r .admitted ≡ a .admitted
   pub same-verdict : r .outcome ≡ a .outcome
   pub queued : a .admitted ≡ true → Enqueued (a .tail) (emissionOf e ∷ []) w (r .tail) u
+  pub untouched : a .admitted ≡ false → u ≡ w
 
 -- The same of all emissions.
 abbrev pub Admitted : List ℕ → Admission → List Emission → Type 0
@@ -79,3 +78,4 @@ pub record Queued (w : List ℕ) (a : Admission) (ys : List Emission) (u : List 
   pub same-admitted : r .admitted ≡ a .admitted
   pub same-verdict : r .outcome ≡ a .outcome
   pub queued : a .admitted ≡ true → Enqueued (a .tail) (replyOf ys) w (r .tail) u
+  pub untouched : a .admitted ≡ false → u ≡ w

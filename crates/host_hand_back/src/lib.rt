@@ -15,10 +15,10 @@ use types::MAX_PROCESSES;
 ghost use mathlib.Core.Path.{_≡_};
 ghost use Prim.Native.Nat.{_+_, _*_, _≤_};
 ghost use lib.ListN.{length};
-ghost use Rattle.hand_back_commit.specs.Commits.{InHand, Fits};
+ghost use Rattle.hand_back_commit.specs.Commits.{CanEnd};
 ghost use Rattle.hand_back.specs.ReplyChecks.{Ready};
 ghost use Rattle.host_hand_back.specs.Passes.{tablesOf, Copied, Sizes, Checkable, ChecksNext, Enqueueable, EnqueuesNext};
-ghost use Rattle.host_hand_back.specs.Parts.{runtimeOf, openedOf, Tabled, Opens, Judges, Admits, givenBack, CommitsTo, LosesTo, Closable, Closes};
+ghost use Rattle.host_hand_back.specs.Parts.{runtimeOf, openedOf, Tabled, Opens, AdmissionOf, givenBack, CommitsTo, PoisonsTo, Closable, Closes};
 
 // How far the first pass is, with the header of the state that the reply is for.
 pub struct Scan {
@@ -38,12 +38,6 @@ pub struct Admission {
     pub admitted: bool,
     pub outcome: CheckResult,
     pub tail: Tail,
-}
-
-// The pending words, to which the second pass adds.
-pub struct Queue {
-    pub words: [u64; 4096],
-    pub admission: Admission,
 }
 
 // The words of `from` go to those of w from `at` on.
@@ -161,10 +155,12 @@ pub fn check_next(words: &[u64; 768], a: Scan, e: Emission) -> Scan
     check_in(words, a, e)
 }
 
-// 27 to 33, 19 and 18 of a reply of so many emissions.
-fn admission_of(check: ReplyCheck, head: Header, emitted: usize) -> Admission
-    ensures { λ r. ⌜ Judges check head emitted r ⌝ }
+// What all checks say of a reply of so many emissions: 27 to 33, 19 and 18.
+pub fn admit(scan: Scan, emitted: usize) -> Admission
+    ensures { λ r. ⌜ AdmissionOf (scan .check) (scan .head) emitted r ⌝ }
 {
+    let check = scan.check;
+    let head = scan.head;
     let tail = Tail {
         count: head.pending,
         next: head.next,
@@ -182,19 +178,6 @@ fn admission_of(check: ReplyCheck, head: Header, emitted: usize) -> Admission
         admitted: verdict.passed,
         outcome: verdict,
         tail: tail,
-    }
-}
-
-// What all checks say, and the pending words for the second pass.
-pub fn admit(state: Runtime, scan: Scan, emitted: usize) -> Queue
-    ensures { λ r. ⌜ Admits state scan emitted r ⌝ }
-{
-    let check = scan.check;
-    let head = state.head;
-    let pending = state.pending;
-    Queue {
-        words: pending,
-        admission: admission_of(check, head, emitted),
     }
 }
 
@@ -236,16 +219,10 @@ fn as_given(state: Runtime, counters: Counters, check: ReplyCheck) -> CallResult
     }
 }
 
-// The round is ended, its emissions queued in the words of q.
-fn commit(
-    state: Runtime,
-    counters: Counters,
-    check: ReplyCheck,
-    q: Queue,
-    emitted: usize,
-) -> CallResult
-    requires { ⌜ InHand (state .head) (state .edges) (state .pending) (state .horizons) (state .batch) × Fits (state .head .next) (state .head .pending) emitted ⌝ }
-    ensures { λ r. ⌜ CommitsTo state counters check q emitted r ⌝ }
+// The round, whose emissions are queued, is ended.
+fn commit(state: Runtime, counters: Counters, check: ReplyCheck, emitted: usize) -> CallResult
+    requires { ⌜ CanEnd (state .head) (state .edges) (state .pending) (state .horizons) (state .batch) emitted ⌝ }
+    ensures { λ r. ⌜ CommitsTo state counters check emitted r ⌝ }
 {
     let head = state.head;
     let mut horizons = state.horizons;
@@ -254,7 +231,7 @@ fn commit(
         head,
         counters,
         &state.edges,
-        &q.words,
+        &state.pending,
         &mut horizons,
         &mut batch,
         check.remote,
@@ -264,7 +241,7 @@ fn commit(
     let left = ended.head;
     let counted = ended.counters;
     let edges = state.edges;
-    let pending = q.words;
+    let pending = state.pending;
     CallResult {
         answer: answer,
         state: Runtime {
@@ -281,7 +258,7 @@ fn commit(
 // The round is lost.
 fn poison(mut state: Runtime, counters: Counters, answer: Answer) -> CallResult
     requires { ⌜ 8 * state .head .batch ≤ length (state .batch) ⌝ }
-    ensures { λ r. ⌜ LosesTo state counters answer r ⌝ }
+    ensures { λ r. ⌜ PoisonsTo state counters answer r ⌝ }
 {
     let head = state.head;
     let mut batch = state.batch;
@@ -298,19 +275,25 @@ fn poison(mut state: Runtime, counters: Counters, answer: Answer) -> CallResult
     }
 }
 
-// What becomes of a reply whose emissions were passed twice.
-pub fn close(state: Runtime, counters: Counters, scan: Scan, q: Queue, emitted: usize) -> CallResult
-    requires { ⌜ Closable state scan q emitted ⌝ }
-    ensures { λ r. ⌜ Closes state counters scan q emitted r ⌝ }
+// What becomes of a reply whose emissions were passed twice; where the round is admitted, they stand in
+// the pending words of the state.
+pub fn close(
+    state: Runtime,
+    counters: Counters,
+    scan: Scan,
+    admission: Admission,
+    emitted: usize,
+) -> CallResult
+    requires { ⌜ Closable state scan admission emitted ⌝ }
+    ensures { λ r. ⌜ Closes state counters scan admission emitted r ⌝ }
 {
     let check = scan.check;
     if !check.going {
         return as_given(state, counters, check);
     }
-    let admission = q.admission;
     let verdict = admission.outcome;
     if verdict.passed {
-        return commit(state, counters, check, q, emitted);
+        return commit(state, counters, check, emitted);
     }
     let answer = verdict.answer;
     poison(state, counters, answer)

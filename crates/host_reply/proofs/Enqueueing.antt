@@ -1,5 +1,5 @@
 -- Where the second pass is, and what the emissions so far made of the pending words.
-use mathlib.Core.Path.{_≡_, sym, subst}
+use mathlib.Core.Path.{subst}
 use Prim.Native.Nat.{ℕ, _+_, _≤_, _<_}
 use mathlib.Core.List.{List}
 use lib.ListN.{length, getD, take}
@@ -12,7 +12,6 @@ use Rattle.host_hand_back.specs.declared.Admission.{Admission}
 use Rattle.host_hand_back.proofs.Passing.{queued-asks, queued-more}
 use Rattle.host_hand_back.proofs.Admission as R
 use Rattle.host_hand_back.proofs.Admission.Laws as R′
-use Rattle.host_reply.proofs.Lent.{Fits}
 use Rattle.host_reply.proofs.Turns.{none, one-more}
 
 -- how many words a queue has
@@ -23,11 +22,11 @@ module _ (D : List ℕ) (a : Admission) (ys : List Emission) (begins : Admitted 
   pub ready-at : i < length ys → i ≤ length ys → Enqueueable E b
   ready-at l w = queued-asks D a (take i ys) E b t ys begins (rw (length-take-le i ys w) l)
 
-  pub taken-next : (F : List ℕ) (r : Admission) → i < length ys → EnqueuesNext E b (getD ys i none) F r → Queued D a (take (i + 1) ys) F r
-  taken-next F r l s = subst (λ (zs : List Emission). Queued D a zs F r) (one-more ys i l) (queued-more D a (take i ys) E b t (getD ys i none) F r s)
+  pub queued-next : (F : List ℕ) (r : Admission) → i < length ys → EnqueuesNext E b (getD ys i none) F r → Queued D a (take (i + 1) ys) F r
+  queued-next F r l s = subst (λ (zs : List Emission). Queued D a zs F r) (one-more ys i l) (queued-more D a (take i ys) E b t (getD ys i none) F r s)
 
-  pub taken-whole : length ys ≤ i → Queued D a ys E b
-  taken-whole l = subst (λ (zs : List Emission). Queued D a zs E b) (take-all i ys l) t
+  pub queued-whole : length ys ≤ i → Queued D a ys E b
+  queued-whole l = subst (λ (zs : List Emission). Queued D a zs E b) (take-all i ys l) t
 
 -- i emissions are queued, and made E and b of D and a
 pub record Here (D : List ℕ) (a : Admission) (ys : List Emission) : Type 0 where
@@ -35,6 +34,5 @@ pub record Here (D : List ℕ) (a : Admission) (ys : List Emission) : Type 0 whe
   pub E : List ℕ
   pub b : Admission
   pub within : i ≤ length ys
-  pub fits : Fits N E
   pub is : Is R.the-row b (LL.vals R.the-type R′.the-laws b)
   pub made : Queued D a (take i ys) E b

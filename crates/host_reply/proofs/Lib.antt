@@ -1,6 +1,5 @@
-pub mod Lent
 pub mod Turns
+pub mod LoopSteps
+pub mod StepCall
 pub mod Checking
-pub mod CheckCall
 pub mod Enqueueing
-pub mod EnqueueCall

@@ -1,1 +1,3 @@
+pub mod OwnerNumbers
+pub mod PlanNumbers
 pub mod Planned

@@ -3,15 +3,20 @@ use libc::STDIN_FILENO;
 use partition::PlanAnswer;
 use text_output::ROOM;
 use types::SimDuration;
+ghost use mathlib.Core.Path.{_≡_};
 ghost use Prim.Native.Nat.{_≤_};
+ghost use Rattle.partition.specs.PlanNumbers.{numberOf, valuesOf};
+ghost use Rattle.partition_text.specs.Values.{listOf};
 
 // A plan of more entities or more places is taken for something that cannot be decoded.
 const MAX_ITEMS: u64 = 4096;
 
 const MAX_WORDS: usize = 8192;
 
-// Document 01's number of a refusal; 0 for a plan.
-fn number_of(answer: PlanAnswer) -> u64 {
+// Document 01's number of an answer.
+fn number_of(answer: PlanAnswer) -> u64
+    ensures { λ r. ⌜ r ≡ numberOf answer ⌝ }
+{
     match answer {
         PlanAnswer::Planned(_) => 0,
         PlanAnswer::InvalidPartitionCount(_) => 1,
@@ -19,6 +24,29 @@ fn number_of(answer: PlanAnswer) -> u64 {
         PlanAnswer::EmptyPartitionEntities => 34,
         PlanAnswer::DuplicatePartitionEntity(_, _) => 35,
         PlanAnswer::TooManyEntities => 36,
+    }
+}
+
+// The values that come with an answer.
+enum PlanValues {
+    Nothing,
+    Count(u64),
+    Entity(u64, u64),
+}
+
+fn values_of(answer: PlanAnswer) -> PlanValues
+    ensures { λ r. ⌜ listOf r ≡ valuesOf answer ⌝ }
+{
+    match answer {
+        PlanAnswer::Planned(count) => PlanValues::Count(count),
+        PlanAnswer::InvalidPartitionCount(count) => PlanValues::Count(count),
+        PlanAnswer::InvalidLookahead => PlanValues::Nothing,
+        PlanAnswer::EmptyPartitionEntities => PlanValues::Nothing,
+        PlanAnswer::DuplicatePartitionEntity(index, generation) => PlanValues::Entity(
+            index,
+            generation,
+        ),
+        PlanAnswer::TooManyEntities => PlanValues::Nothing,
     }
 }
 
@@ -41,16 +69,17 @@ fn put_entity(
     text_output::put_next(out, end, separator, generation)
 }
 
+fn put_values(out: &mut [u8; ROOM], at: usize, values: PlanValues) -> usize {
+    match values {
+        PlanValues::Nothing => at,
+        PlanValues::Count(count) => text_output::put_next(out, at, b' ', count),
+        PlanValues::Entity(index, generation) => put_entity(out, at, b' ', index, generation),
+    }
+}
+
 fn put_answer(out: &mut [u8; ROOM], answer: PlanAnswer) -> usize {
     let end = put_number(out, number_of(answer));
-    match answer {
-        PlanAnswer::Planned(count) | PlanAnswer::InvalidPartitionCount(count) =>
-            text_output::put_next(out, end, b' ', count),
-        PlanAnswer::DuplicatePartitionEntity(index, generation) => {
-            put_entity(out, end, b' ', index, generation)
-        }
-        _ => end,
-    }
+    put_values(out, end, values_of(answer))
 }
 
 // The bar behind the answer. A list of no places leaves its space.

@@ -23,6 +23,7 @@ use Rattle.state.specs.View.{viewOf, countersOf}
 use Rattle.state.proofs.Facts.{few-pending}
 use Rattle.reads.specs.declared.ReadAnswer.the-variants as P
 use Rattle.reads.specs.Reads.{Reads}
+use Rattle.reads.proofs.Numbering.{numbered}
 
 read-11 : (s : State) (c : R.Counters) (a : A.Reading) → foreign s ≡ true → refuse s c A.ForeignState ≡ read s c a
 unfolding read unless if_then_else_
@@ -39,19 +40,19 @@ module _ (s : Runtime) where
 
     pub gvt-foreign : Reads readGvt s c P.ForeignState
     unfolding readGvt
-    gvt-foreign = record { gives = refused _ }
+    gvt-foreign = numbered _ s c _ (refused _)
 
     pub counters-foreign : Reads readCounters s c P.ForeignState
     unfolding readCounters
-    counters-foreign = record { gives = refused _ }
+    counters-foreign = numbered _ s c _ (refused _)
 
     pub pending-foreign : Reads readPending s c P.ForeignState
     unfolding readPending
-    pending-foreign = record { gives = refused _ }
+    pending-foreign = numbered _ s c _ (refused _)
 
     pub earliest-foreign : Reads readEarliest s c P.ForeignState
     unfolding readEarliest
-    earliest-foreign = record { gives = refused _ }
+    earliest-foreign = numbered _ s c _ (refused _)
 
   module _ (passes : foreign (viewOf s) ≡ false) where
     pub can-pass : length (s .pending) ≡ 4096 → 8 * s .head .pending ≤ length (s .pending)
@@ -63,16 +64,16 @@ module _ (s : Runtime) where
 
       pub gvt-read : Reads readGvt s c (P.Gvt (s .head .gvt))
       unfolding readGvt
-      gvt-read = record { gives = passed _ _ refl }
+      gvt-read = numbered _ s c _ (passed _ _ refl)
 
       pub counters-read : Reads readCounters s c (P.Counted c (s .head .used))
       unfolding readCounters
-      counters-read = record { gives = passed _ _ refl }
+      counters-read = numbered _ s c _ (passed _ _ refl)
 
       pub pending-read : Reads readPending s c (P.Pending (s .head .pending))
       unfolding readPending
-      pending-read = record { gives = passed _ _ (ap A.Pending (sym (length-tab (eventAt (s .pending)) 0 (s .head .pending)))) }
+      pending-read = numbered _ s c _ (passed _ _ (ap A.Pending (sym (length-tab (eventAt (s .pending)) 0 (s .head .pending)))))
 
       pub earliest-read : (t cap : SimTime) → ticksOf t ≡ least (ticksOf cap) (eventTicks (eventsOf (s .head .pending) (s .pending))) → ticksOf cap ≡ maxTick → Reads readEarliest s c (P.Earliest t)
       unfolding readEarliest
-      earliest-read t cap q k = record { gives = passed _ _ (ap A.Earliest (q ∙ ap (λ (m : ℕ). least m (eventTicks (eventsOf (s .head .pending) (s .pending)))) k)) }
+      earliest-read t cap q k = numbered _ s c _ (passed _ _ (ap A.Earliest (q ∙ ap (λ (m : ℕ). least m (eventTicks (eventsOf (s .head .pending) (s .pending)))) k)))

@@ -4,12 +4,14 @@ use Rattle.types.specs.Value.{ticksOf}
 use Rattle.rules.specs.State as R
 use Rattle.rules.specs.State.{State}
 use Rattle.rules.specs.Answers as A
+use Rattle.rules.specs.Answers.{number, values}
 use Rattle.rules.specs.Rows.{Out, out}
 use Rattle.state.specs.declared.Runtime.{Runtime}
 use Rattle.state.specs.declared.Counters.{Counters}
 use Rattle.state.specs.View.{viewOf, countersOf}
 use Rattle.reads.specs.declared.ReadAnswer.{ReadAnswer}
 use Rattle.reads.specs.declared.ReadAnswer.the-variants as P
+use Rattle.reads.specs.Numbers.{numberOf, valuesOf}
 
 -- The rules' answer that each answer stands for.
 abbrev pub readOf : ReadAnswer → A.Answer
@@ -22,3 +24,6 @@ readOf P.ForeignState = A.Refused A.ForeignState
 -- Of the runtime s and the counters c, the read whose rule is `rule` answers a: with it, s and c as given are what the rule gives.
 pub record Reads (rule : State → R.Counters → Out) (s : Runtime) (c : Counters) (a : ReadAnswer) : Type 0 where
   pub gives : out (readOf a) (viewOf s) (countersOf c) ≡ rule (viewOf s) (countersOf c)
+  -- .. and so are document 01's number and values of it.
+  pub number-is : numberOf a ≡ number (rule (viewOf s) (countersOf c) .answer)
+  pub values-are : valuesOf a ≡ values (rule (viewOf s) (countersOf c) .answer)

@@ -1,4 +1,5 @@
 pub mod Table
 pub mod MalformedReply
+pub mod Reading
 pub mod Passing
 pub mod Samples

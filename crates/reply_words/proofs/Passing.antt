@@ -8,6 +8,7 @@ use native.Mathlib.Omega.{arith}
 use lib.Dec.{ltb}
 use lib.ListN.{length, getD}
 use borrow.Author.Tests.{lt-ltb, le-ltb, eq-eqb, ne-eqb}
+use Rattle.types.specs.Value.{lpIdOf}
 use Rattle.rules.specs.Base.{upFrom, upTo, any, anyOf}
 use Rattle.rules.specs.State.{Event}
 use Rattle.rules.specs.HandBack.{failed, inBatch}
@@ -73,23 +74,23 @@ module _ (mask : ℕ) (t : List ℕ) where
   unfolding Scanning FailedNotInBatch upFrom any
   scanning-end p l f q h = let z : 64 - p ≡ 0 = omega arith in sym (f q h ∙ rw z)
 
-  -- Of one emission.
-  module _ (last : ℕ) (e : Emission) where
-    pub malformed-fallen : e .emitter < last → MalformedEmission mask t last (emissionOf e) true
+  -- Of one emission, whose emitter is p.
+  module _ (last : ℕ) (e : Emission) (p : ℕ) (same : p ≡ lpIdOf (e .emitter)) where
+    pub malformed-fallen : p < last → MalformedEmission mask t last (emissionOf e) true
     unfolding MalformedEmission malformedEmission anyOf any
-    malformed-fallen l q h = rw (lt-ltb (e .emitter) last l)
+    malformed-fallen l q h = rw (← same, lt-ltb p last l)
 
-    pub malformed-unknown : getD t (e .emitter) 0 ≡ 0 → MalformedEmission mask t last (emissionOf e) true
+    pub malformed-unknown : getD t p 0 ≡ 0 → MalformedEmission mask t last (emissionOf e) true
     unfolding MalformedEmission malformedEmission anyOf any
-    malformed-unknown z q h = rw (missing q (e .emitter) h z, or-true)
+    malformed-unknown z q h = rw (← same, missing q p h z, or-true)
 
-    pub malformed-past : length t ≡ 64 → 64 ≤ e .emitter → MalformedEmission mask t last (emissionOf e) true
-    malformed-past l b = malformed-unknown (past-end t (e .emitter) l b)
+    pub malformed-past : length t ≡ 64 → 64 ≤ p → MalformedEmission mask t last (emissionOf e) true
+    malformed-past l b = malformed-unknown (past-end t p l b)
 
-    pub malformed-failed : (r : Bool) → r ≡ failed mask (e .emitter) → r ≡ true → MalformedEmission mask t last (emissionOf e) true
+    pub malformed-failed : (r : Bool) → r ≡ failed mask p → r ≡ true → MalformedEmission mask t last (emissionOf e) true
     unfolding MalformedEmission malformedEmission anyOf any
-    malformed-failed r s z q h = rw (sym s ∙ z, or-true, or-true)
+    malformed-failed r s z q h = rw (← same, sym s ∙ z, or-true, or-true)
 
-    pub malformed-long : (r : Bool) → last ≤ e .emitter → (getD t (e .emitter) 0 ≡ 0 → ⊥) → r ≡ failed mask (e .emitter) → r ≡ false → MalformedEmission mask t last (emissionOf e) (ltb 16 (e .len))
+    pub malformed-long : (r : Bool) → last ≤ p → (getD t p 0 ≡ 0 → ⊥) → r ≡ failed mask p → r ≡ false → MalformedEmission mask t last (emissionOf e) (ltb 16 (e .len))
     unfolding MalformedEmission malformedEmission anyOf any
-    malformed-long r l n s z q h = rw (le-ltb (e .emitter) last l, present q (e .emitter) h n, sym s ∙ z, length-payload) (sym (or-false _))
+    malformed-long r l n s z q h = rw (← same, le-ltb p last l, present q p h n, sym s ∙ z, length-payload) (sym (or-false _))

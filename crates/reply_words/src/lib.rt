@@ -2,7 +2,8 @@
 // payload length, payload in two words; and 26, a malformed one.
 //
 // The batch is checked by a table of 64 places, so that each emission is one lookup. An emitter may be
-// any word. These are leaves: each asks that the words it touches are there.
+// any id. These are leaves: each asks that the words it touches are there.
+use types::LpId;
 use types::MAX_PAYLOAD;
 use types::MAX_PROCESSES;
 use types::SimTime;
@@ -15,30 +16,27 @@ ghost use Rattle.records.specs.Records.{eventsOf, Owners};
 ghost use Rattle.reply_words.specs.Emissions.{emissionOf, emissionIn};
 ghost use Rattle.reply_words.specs.Replies.{Places, FailedWithoutEvent, FailedNotInBatch, MalformedEmission};
 
-// An emission. Its ids are whole words, checked as they come; its tick is no id.
+// An emission: the process that emits it, and the event.
 pub struct Emission {
-    pub emitter: u64,
-    pub source: u64,
-    pub destination: u64,
+    pub emitter: LpId,
+    pub source: LpId,
+    pub destination: LpId,
     pub tick: SimTime,
     pub len: u64,
     pub payload_hi: u64,
     pub payload_lo: u64,
 }
 
-// The emission in the eight words from `at` on.
+// The emission in the eight words from `at` on. Of an id word the lower half counts.
 pub fn emission_in(w: &[u64], at: usize) -> Emission
     requires { ⌜ at + 8 ≤ length (now w) ⌝ }
-    ensures { λ r. ⌜ r ≡ emissionIn (now (w .entry)) at ⌝ }
+    ensures { λ r. ⌜ emissionOf r ≡ emissionIn (now (w .entry)) at ⌝ }
 {
     Emission {
-        emitter: w[at],
-        source: w[at + 1],
-        destination: w[at + 2],
-        tick: SimTime {
-            hi: w[at + 3],
-            lo: w[at + 4],
-        },
+        emitter: LpId::from_word(w[at]),
+        source: LpId::from_word(w[at + 1]),
+        destination: LpId::from_word(w[at + 2]),
+        tick: words::tick_in(w, at + 3),
         len: w[at + 5],
         payload_hi: w[at + 6],
         payload_lo: w[at + 7],
@@ -101,16 +99,17 @@ pub fn malformed_emission(e: Emission, last: u64, mask: u64, places: &[u64]) -> 
     requires { ⌜ length (now places) ≡ 64 ⌝ }
     ensures { λ r. ⌜ MalformedEmission mask (now (places .entry)) last (emissionOf e) r ⌝ }
 {
-    if e.emitter < last {
+    let emitter = e.emitter.to_word();
+    if emitter < last {
         return true;
     }
-    if MAX_PROCESSES <= e.emitter {
+    if MAX_PROCESSES <= emitter {
         return true;
     }
-    if places[e.emitter as usize] == 0 {
+    if places[emitter as usize] == 0 {
         return true;
     }
-    if failed(mask, e.emitter) {
+    if failed(mask, emitter) {
         return true;
     }
     MAX_PAYLOAD < e.len

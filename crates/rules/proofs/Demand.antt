@@ -12,7 +12,7 @@ use Rattle.rules.specs.Rows.{unless, Out}
 use Rattle.rules.specs.Build.{Setup, built, build}
 use Rattle.rules.specs.Foreign.{foreign}
 use Rattle.rules.specs.Refresh.{refreshed}
-use Rattle.rules.specs.Reads.{read, readCounters, readPending}
+use Rattle.rules.specs.Reads.{read, readGvt, readCounters, readPending, readEarliest}
 use Rattle.rules.specs.Calls.{Call, AddInitial, Begin, Step, HandBack, rule}
 use Rattle.rules.specs.History
 use Rattle.rules.specs.History.{History, emptyHistory, appendCall, runCalls, L, E, initials, inHand, emitted, remote, rounds, nullMessages, workerCount, used}
@@ -143,7 +143,7 @@ unfolding read unless if_then_else_
 read-answers s c r f = rw f
 
 pub demanded : (a : Setup) (y : History) → Sound a y → Demanded a y
-unfolding readPending readCounters
+unfolding readGvt readPending readCounters readEarliest
 demanded a y i =
     let es = y .entries in
     let f = passes-11 (y .now) (i .shaped) in
@@ -156,6 +156,8 @@ demanded a y i =
       few-null-messages = rw (i .fixed .lookahead, i .fixed .edges) at (few-null-messages y (i .shaped) (i .paced));
       counters = read-answers (y .now) (y .counters) (Counted (y .counters) (y .now .used)) f
           ∙ (λ t. Read (Counted (record { handled = k .handled t; emitted = k .emitted t; remote = k .remote t; rounds = k .rounds t; «null_messages» = k .«null_messages» t; «worker_count» = k .«worker_count» t }) (i .tallied .kept .used t)));
+      gvt = read-answers (y .now) (y .counters) _ f;
+      earliest = read-answers (y .now) (y .counters) _ f;
       no-foreign = i .no-foreign;
       no-straggler = i .no-straggler;
     }

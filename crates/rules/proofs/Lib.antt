@@ -1,13 +1,6 @@
--- Computed cases: document 01's rehearsals, and an input for each refusal.
+-- Computed cases: document 01's rehearsals, what else notices its slips, and demand 3's numbers.
 pub mod Rehearsals
-pub mod Samples
-pub mod RefusalsBuild
-pub mod RefusalsForeign
-pub mod RefusalsCalls
-pub mod RefusalsBack
-pub mod RefusalsPlan
-pub mod Refusals
-pub mod MoreRehearsals
+pub mod Slips
 pub mod Counting
 -- Tools: tests, lists, tables of refusals, and what each call can do.
 pub mod Tests

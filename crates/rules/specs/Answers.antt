@@ -1,7 +1,8 @@
 -- What a call answers: one constructor for each answer and each refusal, and the number and the values that document 01's table gives to each.
 -- Refusals have the names of the Rust's RuntimeError and PdesError where those have one; its HandlerPanicked is HandlerFailed here, since a host reports it, and plan's InvalidPartitionLookahead is build's InvalidLookahead: one row.
-use mathlib.Core.List.{List, [], _∷_}
+use mathlib.Core.List.{List, [], _∷_, _++_}
 use Prim.Native.Nat.{ℕ}
+use lib.ListN.{length}
 use Rattle.rules.specs.State.{Event, Counters}
 
 -- "Entities are sorted by (index, generation)".
@@ -139,7 +140,7 @@ readingValues (Counted c u) = c .handled ∷ c .emitted ∷ c .remote ∷ c .rou
 readingValues (Pending k) = k ∷ []
 readingValues (Earliest t) = t ∷ []
 
--- Every answer. Promises equate whole answers of this type, which say more than their number and values. "Step and hand back carry GVT unless they refuse": it is the last number of a Batch, Advanced, Finished and Committed.
+-- Every answer. Promises equate whole answers of this type, and their numbers and values. "Step and hand back carry GVT unless they refuse": it is the last number of a Batch, Advanced, Finished and Committed.
 -- Build, add initial and begin answer Accepted, with nothing beside it; plan answers how many entities it wrote.
 pub data Answer : Type 0 where
   Accepted : Answer
@@ -162,10 +163,15 @@ number (Read r) = 0
 number (Planned k) = 0
 number (Refused r) = refusalNumber r
 
--- The values that come with an answer, as numbers. A batch's events are a list of their own, so here it has its GVT alone.
+-- The numbers of events in turn: destination, tick, source, sequence, how many bytes of payload, and these.
+unfoldable pub eventValues : List Event → List ℕ
+eventValues [] = []
+eventValues (e ∷ es) = (e .destination ∷ e .tick ∷ e .source ∷ e .sequence ∷ length (e .payload) ∷ e .payload) ++ eventValues es
+
+-- The values that come with an answer, as numbers; of a batch its GVT and then its events, all of each.
 unfoldable pub values : Answer → List ℕ
 values Accepted = []
-values (Batch es g) = g ∷ []
+values (Batch es g) = g ∷ eventValues es
 values (Advanced g) = g ∷ []
 values (Finished g) = g ∷ []
 values (Committed g) = g ∷ []

@@ -4,10 +4,11 @@ use mathlib.Core.Bool.{false}
 use mathlib.Core.List.{List, [], _∷_, map}
 use Prim.Native.Nat.{ℕ, _+_, _*_, _/_, _≤_, min}
 use lib.ListN.{length}
-use Rattle.rules.specs.State.{Event, maxCount}
-use Rattle.rules.specs.Answers.{Reading, Read, Counted, Pending, number}
+use Rattle.rules.specs.State.{Event, maxCount, maxTick}
+use Rattle.rules.specs.Answers.{Reading, Read, Gvt, Counted, Pending, Earliest, number}
 use Rattle.rules.specs.Build.{Setup}
-use Rattle.rules.specs.Reads.{readCounters, readPending}
+use Rattle.rules.specs.Refresh.{least}
+use Rattle.rules.specs.Reads.{readGvt, readCounters, readPending, readEarliest}
 use Rattle.rules.specs.History.{Entry, History, L, E, R, H, initials, inHand, handled, emitted, remote, rounds, nullMessages, workerCount, used, handedTo}
 
 abbrev pub Nondecreasing : List ℕ → Type 0
@@ -47,6 +48,9 @@ pub record Demanded (a : Setup) (y : History) : Type 0 where
   pub few-null-messages : nullMessages (y .entries) ≤ E a * (H (y .entries) / L a + R (y .entries))
   -- "The counters read after the list equal these counts, or 2^64 - 1 where one is larger."
   pub counters : readCounters (y .now) (y .counters) .answer ≡ Read (counts (y .entries))
+  -- "each read after the list, gets the state and the counters that the call before it left": the other two reads.
+  pub gvt : readGvt (y .now) (y .counters) .answer ≡ Read (Gvt (y .now .gvt))
+  pub earliest : readEarliest (y .now) (y .counters) .answer ≡ Read (Earliest (least maxTick (map (λ (e : Event). e .tick) (y .now .pending))))
   -- No call of the list is refused with 11.
   pub no-foreign : Never 11 (y .entries)
   -- Beyond document 01, for request A.5 of document 02: nor with 33.

@@ -19,15 +19,7 @@ pub mod Calls
 pub mod History
 pub mod Demand
 pub mod Opened
--- Computed cases: document 01's rehearsals, states written out, and an input for each refusal.
+-- Computed cases: document 01's rehearsals, what else notices its slips, and demand 3's numbers.
 pub mod Rehearsals
-pub mod Outcomes
-pub mod Samples
-pub mod RefusalsBuild
-pub mod RefusalsForeign
-pub mod RefusalsCalls
-pub mod RefusalsBack
-pub mod RefusalsPlan
-pub mod Refusals
-pub mod MoreRehearsals
+pub mod Slips
 pub mod Counting

@@ -125,12 +125,12 @@ pub record Rehearsed : Type 0 where
   pub c6-committed : answers pair (handing-back (emits 1 1 2)) ≡ (Accepted ∷ Accepted ∷ Batch (event 0 1 2 0 ∷ []) 0 ∷ Committed 1 ∷ [])
   pub c6-refused : answers pair (handing-back (emits 1 1 1)) ≡ (Accepted ∷ Accepted ∷ Batch (event 0 1 2 0 ∷ []) 0 ∷ Refused (Answers.OutboundLookaheadViolation 1 2 1 2) ∷ [])
   pub c6-number : numbers pair (handing-back (emits 1 1 1)) ≡ (0 ∷ 0 ∷ 0 ∷ 32 ∷ [])
-  pub c6-values : returned pair (handing-back (emits 1 1 1)) ≡ ([] ∷ [] ∷ (0 ∷ []) ∷ (1 ∷ 2 ∷ 1 ∷ 2 ∷ []) ∷ [])
+  pub c6-values : returned pair (handing-back (emits 1 1 1)) ≡ ([] ∷ [] ∷ (0 ∷ 1 ∷ 2 ∷ 0 ∷ 0 ∷ 0 ∷ []) ∷ (1 ∷ 2 ∷ 1 ∷ 2 ∷ []) ∷ [])
   -- "To the other at 5: Committed; at 4: 32, minimum 5."
   pub c7-committed : answers pair (handing-back (emits 1 0 5)) ≡ (Accepted ∷ Accepted ∷ Batch (event 0 1 2 0 ∷ []) 0 ∷ Committed 2 ∷ [])
   pub c7-refused : answers pair (handing-back (emits 1 0 4)) ≡ (Accepted ∷ Accepted ∷ Batch (event 0 1 2 0 ∷ []) 0 ∷ Refused (Answers.OutboundLookaheadViolation 1 2 4 5) ∷ [])
   pub c7-number : numbers pair (handing-back (emits 1 0 4)) ≡ (0 ∷ 0 ∷ 0 ∷ 32 ∷ [])
-  pub c7-values : returned pair (handing-back (emits 1 0 4)) ≡ ([] ∷ [] ∷ (0 ∷ []) ∷ (1 ∷ 2 ∷ 4 ∷ 5 ∷ []) ∷ [])
+  pub c7-values : returned pair (handing-back (emits 1 0 4)) ≡ ([] ∷ [] ∷ (0 ∷ 1 ∷ 2 ∷ 0 ∷ 0 ∷ 0 ∷ []) ∷ (1 ∷ 2 ∷ 4 ∷ 5 ∷ []) ∷ [])
   -- "Horizon 2^128 - 1: 22, initial events still open; 2^128 - 2 is accepted."
   pub c8 : answers pair to-the-top ≡ (Refused (Answers.HorizonOverflow (2 ^ 128 - 1)) ∷ Accepted ∷ Accepted ∷ [])
   pub c8-number : numbers pair to-the-top ≡ (22 ∷ 0 ∷ 0 ∷ [])
@@ -138,6 +138,6 @@ pub record Rehearsed : Type 0 where
   -- "Only edge 0→1, initial 0→0 at 2^128 - 2, that horizon; emission to 1: 31."
   pub c9 : answers one-way at-the-top ≡ (Accepted ∷ Accepted ∷ Batch (event 0 0 (2 ^ 128 - 2) 0 ∷ []) 0 ∷ Refused (Answers.LookaheadOverflow 0 (2 ^ 128 - 2) 3) ∷ [])
   pub c9-number : numbers one-way at-the-top ≡ (0 ∷ 0 ∷ 0 ∷ 31 ∷ [])
-  pub c9-values : returned one-way at-the-top ≡ ([] ∷ [] ∷ (0 ∷ []) ∷ (0 ∷ (2 ^ 128 - 2) ∷ 3 ∷ []) ∷ [])
+  pub c9-values : returned one-way at-the-top ≡ ([] ∷ [] ∷ (0 ∷ 0 ∷ (2 ^ 128 - 2) ∷ 0 ∷ 0 ∷ 0 ∷ []) ∷ (0 ∷ (2 ^ 128 - 2) ∷ 3 ∷ []) ∷ [])
   -- "Initial 1→1 at 2, then 0→1 at 2: source 0 comes out first."
   pub c10 : answers pair two-sources ≡ (Accepted ∷ Accepted ∷ Accepted ∷ Batch (event 0 1 2 1 ∷ []) 0 ∷ Committed 1 ∷ Batch (event 1 1 2 0 ∷ []) 1 ∷ Committed 2 ∷ [])

@@ -18,8 +18,8 @@ use Rattle.build.specs.Checks.{answerOf, ChecksBuild}
 use Rattle.build.specs.Initialized.{Initializes, emptyHeader, emptyRuntime}
 use Rattle.build.proofs.BuildAnswer.{the-type}
 use Rattle.build.proofs.AnswerRows.{never, counters-accepted, counters-refused}
-use Rattle.build.proofs.Checking.{refusals, refusing}
 use Rattle.build.proofs.Initializing.{writable}
+use Rattle.build.proofs.Numbering.{refusals, refusing, numbered, valued}
 use Rattle.runtime.specs.Builds.{Makes, Builds}
 
 -- A header and edges, the other words zeros.
@@ -49,6 +49,8 @@ module _ (n L : ℕ) (ids sources counts ds : List ℕ) (c : Counters) (r : Buil
     pub accepted : (s : Runtime) → Makes n L sources counts ds s → Builds a c (record { answer = r; state = s; counters = record { «processed_events» = 0; «emitted_events» = 0; «remote_events» = 0; rounds = 0; «null_messages» = 0; «worker_count» = 0 } })
     accepted s m = record {
       answered = answer-is;
+      number-is = numbered r _ answer-is;
+      values-are = valued r _ answer-is;
       made = λ _. m .of-ids ids;
       counted = sym (counters-accepted a (countersOf c) accepts);
       refused = λ why x. never why (sym x ∙ accepts);
@@ -57,6 +59,8 @@ module _ (n L : ℕ) (ids sources counts ds : List ℕ) (c : Counters) (r : Buil
   pub refused : (s : Runtime) → s ≡ emptyRuntime → OneOf refusals (tagOf the-type r) → Builds a c (record { answer = r; state = s; counters = c })
   refused s e w = refusing r w (λ why x. record {
     answered = answer-is;
+    number-is = numbered r _ answer-is;
+    values-are = valued r _ answer-is;
     made = λ y. never why (sym x ∙ answer-is ∙ y);
     counted = sym (counters-refused a (countersOf c) why (sym answer-is ∙ x));
     refused = λ _ _. (e, refl);

@@ -141,27 +141,25 @@ module _ (h : Header) (E : List ℕ) (m : Message) where
     add-closed o = refuses _ refl (λ Q Z B c f. sym (row-13 (view h E Q Z B) c (messageOf m) f p o))
 
     module _ (o : h .initial ≡ true) (a : ℕ) (ea : a ≡ lpIdOf (m .source)) where
-      pub add-source : h .n ≤ a → InitialRefusal h E m (P.UnknownInitialSource a)
+      pub add-source : h .n ≤ a → InitialRefusal h E m (P.UnknownInitialSource (m .source))
       unfolding H.refused
-      add-source l = refuses _ refl (λ Q Z B c f. ap (λ (x : ℕ). refuse (view h E Q Z B) c (A.UnknownInitialSource x)) ea ∙ sym (row-14 (view h E Q Z B) c (messageOf m) f p o (le-leb (h .n) _ (omega arith))))
+      add-source l = refuses _ refl (λ Q Z B c f. sym (row-14 (view h E Q Z B) c (messageOf m) f p o (le-leb (h .n) _ (omega arith))))
 
       module _ (l : a < h .n) (b : ℕ) (eb : b ≡ lpIdOf (m .destination)) where
         known : leb (h .n) (lpIdOf (m .source)) ≡ false
         known = lt-leb (h .n) _ (omega arith)
 
-        pub add-destination : h .n ≤ b → InitialRefusal h E m (P.UnknownInitialDestination b)
+        pub add-destination : h .n ≤ b → InitialRefusal h E m (P.UnknownInitialDestination (m .destination))
         unfolding H.refused
-        add-destination k = refuses _ refl (λ Q Z B c f. ap (λ (x : ℕ). refuse (view h E Q Z B) c (A.UnknownInitialDestination x)) eb ∙ sym (row-15 (view h E Q Z B) c (messageOf m) f p o known (le-leb (h .n) _ (omega arith))))
+        add-destination k = refuses _ refl (λ Q Z B c f. sym (row-15 (view h E Q Z B) c (messageOf m) f p o known (le-leb (h .n) _ (omega arith))))
 
         module _ (k : b < h .n) (t : Bool) (et : t ≡ route (edgesOf (h .edges) E) (lpIdOf (m .source)) (lpIdOf (m .destination))) where
           reached : leb (h .n) (lpIdOf (m .destination)) ≡ false
           reached = lt-leb (h .n) _ (omega arith)
 
-          pub add-unrouted : t ≡ false → InitialRefusal h E m (P.InitialRouteMissing a b)
+          pub add-unrouted : t ≡ false → InitialRefusal h E m (P.InitialRouteMissing (m .source) (m .destination))
           unfolding H.refused
-          add-unrouted u = refuses _ refl (λ Q Z B c f.
-              (λ j. refuse (view h E Q Z B) c (A.InitialRouteMissing (ea j) (eb j)))
-              ∙ sym (row-16 (view h E Q Z B) c (messageOf m) f p o known reached (sym et ∙ u)))
+          add-unrouted u = refuses _ refl (λ Q Z B c f. sym (row-16 (view h E Q Z B) c (messageOf m) f p o known reached (sym et ∙ u)))
 
           pub add-queued : t ≡ true → (r : Answer) → QueueRefusal h m r → InitialRefusal h E m r
           add-queued u r d =

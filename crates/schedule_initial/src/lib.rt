@@ -1,5 +1,4 @@
 // The core of add initial: what it does with a state that 11 let pass.
-use build_ids::widen;
 use records::Record;
 use state::Answer;
 use state::Header;
@@ -24,10 +23,10 @@ fn record_of(m: Message, seq: u64) -> Record
     let destination = m.destination;
     let time = m.tick;
     Record {
-        destination: widen(destination.0),
+        destination: destination.to_word(),
         hi: time.hi,
         lo: time.lo,
-        source: widen(source.0),
+        source: source.to_word(),
         sequence: seq,
         len: m.len,
         payload_hi: m.payload_hi,
@@ -42,7 +41,7 @@ fn has_route(edges: &[u64], count: usize, m: Message) -> bool
 {
     let source = m.source;
     let destination = m.destination;
-    edges::has_route(edges, count, widen(source.0), widen(destination.0))
+    edges::has_route(edges, count, source.to_word(), destination.to_word())
 }
 
 // Rows 17, 18 and 19.
@@ -74,17 +73,15 @@ fn refusal(head: Header, edges: &[u64], m: Message) -> Answer
     }
     let n = head.n as u64;
     let source = m.source;
-    let from = widen(source.0);
-    if n <= from {
-        return Answer::UnknownInitialSource(from);
-    }
     let destination = m.destination;
-    let to = widen(destination.0);
-    if n <= to {
-        return Answer::UnknownInitialDestination(to);
+    if n <= source.to_word() {
+        return Answer::UnknownInitialSource(source);
+    }
+    if n <= destination.to_word() {
+        return Answer::UnknownInitialDestination(destination);
     }
     if !has_route(edges, head.edges, m) {
-        return Answer::InitialRouteMissing(from, to);
+        return Answer::InitialRouteMissing(source, destination);
     }
     queue_refusal(head, m)
 }

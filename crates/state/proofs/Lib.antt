@@ -2,3 +2,4 @@ pub mod Facts
 pub mod Moves
 pub mod Deciding
 pub mod Queueing
+pub mod Numbering

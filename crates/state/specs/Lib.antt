@@ -1,4 +1,5 @@
 pub mod View
+pub mod Numbers
 pub mod Headers
 pub mod ValidArrays
 pub mod AsGiven

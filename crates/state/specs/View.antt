@@ -47,7 +47,7 @@ countersOf c = record { handled = c .«processed_events»; emitted = c .«emitte
 abbrev pub messageOf : Message → R.Message
 messageOf m = record { source = lpIdOf (m .source); destination = lpIdOf (m .destination); tick = ticksOf (m .tick); payload = payloadOf (m .len) (m .«payload_hi») (m .«payload_lo») }
 
--- The rules' answer that each answer stands for, with the batch in hand after it; its number and values are the rules' `number` and `values`.
+-- The rules' answer that each answer stands for, with the batch in hand after it.
 abbrev pub answerOf : List Event → Answer → A.Answer
 answerOf es P.Accepted = A.Accepted
 answerOf es (P.Batch g) = A.Batch es (ticksOf g)
@@ -57,9 +57,9 @@ answerOf es (P.Committed g) = A.Committed (ticksOf g)
 answerOf es P.ForeignState = A.Refused A.ForeignState
 answerOf es P.Poisoned = A.Refused A.Poisoned
 answerOf es P.InitialEventsAlreadyClosed = A.Refused A.InitialEventsAlreadyClosed
-answerOf es (P.UnknownInitialSource p) = A.Refused (A.UnknownInitialSource p)
-answerOf es (P.UnknownInitialDestination p) = A.Refused (A.UnknownInitialDestination p)
-answerOf es (P.InitialRouteMissing a b) = A.Refused (A.InitialRouteMissing a b)
+answerOf es (P.UnknownInitialSource p) = A.Refused (A.UnknownInitialSource (lpIdOf p))
+answerOf es (P.UnknownInitialDestination p) = A.Refused (A.UnknownInitialDestination (lpIdOf p))
+answerOf es (P.InitialRouteMissing a b) = A.Refused (A.InitialRouteMissing (lpIdOf a) (lpIdOf b))
 answerOf es (P.PayloadTooLong k) = A.Refused (A.PayloadTooLong k)
 answerOf es P.QueueFull = A.Refused A.QueueFull
 answerOf es P.EventSequenceOverflow = A.Refused A.EventSequenceOverflow
@@ -70,10 +70,10 @@ answerOf es P.NothingToStep = A.Refused A.NothingToStep
 answerOf es (P.EventBudgetExceeded b) = A.Refused (A.EventBudgetExceeded b)
 answerOf es P.NoBatch = A.Refused A.NoBatch
 answerOf es P.MalformedReply = A.Refused A.MalformedReply
-answerOf es (P.HandlerFailed p) = A.Refused (A.HandlerFailed p)
-answerOf es (P.OutboundSourceMismatch p a) = A.Refused (A.OutboundSourceMismatch p a)
-answerOf es (P.UnknownOutboundDestination b) = A.Refused (A.UnknownOutboundDestination b)
-answerOf es (P.OutboundRouteMissing a b) = A.Refused (A.OutboundRouteMissing a b)
-answerOf es (P.LookaheadOverflow p t l) = A.Refused (A.LookaheadOverflow p (ticksOf t) (durationOf l))
-answerOf es (P.OutboundLookaheadViolation p t u m) = A.Refused (A.OutboundLookaheadViolation p (ticksOf t) (ticksOf u) (ticksOf m))
-answerOf es (P.Straggler b u h) = A.Refused (A.Straggler b (ticksOf u) (ticksOf h))
+answerOf es (P.HandlerFailed p) = A.Refused (A.HandlerFailed (lpIdOf p))
+answerOf es (P.OutboundSourceMismatch p a) = A.Refused (A.OutboundSourceMismatch (lpIdOf p) (lpIdOf a))
+answerOf es (P.UnknownOutboundDestination b) = A.Refused (A.UnknownOutboundDestination (lpIdOf b))
+answerOf es (P.OutboundRouteMissing a b) = A.Refused (A.OutboundRouteMissing (lpIdOf a) (lpIdOf b))
+answerOf es (P.LookaheadOverflow p t l) = A.Refused (A.LookaheadOverflow (lpIdOf p) (ticksOf t) (durationOf l))
+answerOf es (P.OutboundLookaheadViolation p t u m) = A.Refused (A.OutboundLookaheadViolation (lpIdOf p) (ticksOf t) (ticksOf u) (ticksOf m))
+answerOf es (P.Straggler b u h) = A.Refused (A.Straggler (lpIdOf b) (ticksOf u) (ticksOf h))

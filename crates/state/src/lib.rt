@@ -62,7 +62,7 @@ pub struct Message {
 }
 
 // What add initial, begin, step and hand back answer. The events of a batch are those in hand in the
-// state left. Ids are whole words: those of an emission may be any.
+// state left. specs/Numbers.antt has document 01's number and values of each.
 pub enum Answer {
     Accepted,
     Batch(SimTime),
@@ -72,9 +72,9 @@ pub enum Answer {
     ForeignState,
     Poisoned,
     InitialEventsAlreadyClosed,
-    UnknownInitialSource(u64),
-    UnknownInitialDestination(u64),
-    InitialRouteMissing(u64, u64),
+    UnknownInitialSource(LpId),
+    UnknownInitialDestination(LpId),
+    InitialRouteMissing(LpId, LpId),
     PayloadTooLong(u64),
     QueueFull,
     EventSequenceOverflow,
@@ -85,13 +85,13 @@ pub enum Answer {
     EventBudgetExceeded(u64),
     NoBatch,
     MalformedReply,
-    HandlerFailed(u64),
-    OutboundSourceMismatch(u64, u64),
-    UnknownOutboundDestination(u64),
-    OutboundRouteMissing(u64, u64),
-    LookaheadOverflow(u64, SimTime, SimDuration),
-    OutboundLookaheadViolation(u64, SimTime, SimTime, SimTime),
-    Straggler(u64, SimTime, SimTime),
+    HandlerFailed(LpId),
+    OutboundSourceMismatch(LpId, LpId),
+    UnknownOutboundDestination(LpId),
+    OutboundRouteMissing(LpId, LpId),
+    LookaheadOverflow(LpId, SimTime, SimDuration),
+    OutboundLookaheadViolation(LpId, SimTime, SimTime, SimTime),
+    Straggler(LpId, SimTime, SimTime),
 }
 
 // An answer and the header left with it.

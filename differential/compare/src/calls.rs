@@ -3,6 +3,7 @@
 use crate::lists::{self, Observed};
 use crate::program::{file, first_other, printed, shown, BATCH};
 use crate::shrink::shrink;
+use crate::states;
 use crate::store;
 use crate::tally::Tally;
 use crate::work::{parts, shared};
@@ -118,9 +119,45 @@ fn some_files(
     (tally, None)
 }
 
-/// Compares `count` scenarios of three lists each and prints what was compared. Whether there was no
-/// difference.
+/// Document 01's rehearsals, those that it does not mark among them: whether our program answers as
+/// the original does, and as is written there.
+fn rehearsed(program: &Path) -> bool {
+    let rehearsals = generate::rehearsals();
+    let lists = rehearsals.iter().map(|r| r.list.clone());
+    let all: Vec<Expected> = lists
+        .map(|list| {
+            let observed = lists::observe(&list);
+            expected(list, &observed)
+        })
+        .collect();
+    let words: Vec<u64> = all.iter().flat_map(|e| words::encode(&e.list, 0)).collect();
+    let written = rehearsals.iter().zip(&all).all(|(rehearsal, e)| {
+        let mut lines = e.lines.iter().zip(&rehearsal.answers);
+        e.lines.len() == rehearsal.answers.len()
+            && lines.all(|(line, with)| store::begins(line, with))
+    });
+    let found = match printed(program, &words::bytes(&words)) {
+        Ok(text) => told(program, 0, &all, &text),
+        Err(cause) => Some(format!("{} does not run: {cause}", program.display())),
+    };
+    let right = written && found.is_none();
+    found.iter().for_each(|told| println!("{told}"));
+    println!(
+        "calls: {} rehearsals of document 01 on our program: {}",
+        all.len(),
+        if right {
+            "as the Rust answers and as written"
+        } else {
+            "NOT as written"
+        }
+    );
+    right
+}
+
+/// Compares the rehearsals, then `count` scenarios of three lists each, and prints what was compared.
+/// Whether there was no difference.
 pub fn compare(program: &Path, seed: u64, count: u64) -> bool {
+    let rehearsed = rehearsed(program);
     let files = count.div_ceil(BATCH);
     let (mut tally, mut differences) = (Tally::default(), vec![]);
     for (part, found) in shared(files, |numbers| some_files(program, seed, count, numbers)) {
@@ -131,9 +168,14 @@ pub fn compare(program: &Path, seed: u64, count: u64) -> bool {
     let (lists, by_rust, by_rules) = (tally.lists, tally.by_rust, tally.by_rules);
     let calls = by_rust + by_rules;
     println!("calls: our program, seed {seed}: {calls} builds and calls in {lists} lists in {files} files, {by_rust} answered by the Rust, {by_rules} by document 01 alone");
-    println!("calls: refusals seen: {}", tally.refusals());
     println!("calls: {} differences", differences.len());
-    differences.is_empty() && calls > 0
+    let given = states::compare(program, seed, count, &mut tally);
+    let seen = tally.refusals[1..].iter().filter(|seen| **seen > 0).count();
+    println!(
+        "calls: refusals seen, from builds and from states given whole, {seen} of 36: {}",
+        tally.refusals()
+    );
+    rehearsed && differences.is_empty() && given && calls > 0
 }
 
 /// A call's line by a program that follows these rules.
@@ -169,8 +211,8 @@ fn text_of(rules: Rules, all: &[Expected]) -> String {
     text
 }
 
-/// What a list of calls from build does not show: it is met from states set by hand alone, or, the
-/// owners, printed in no line.
+/// What a list of calls from build does not show: it is met from states given whole alone (states.rs), or,
+/// the owners, printed in no line.
 const UNSEEN: [Variant; 9] = [
     Variant::ClosedByStoredHorizon,
     Variant::OneLessWraps,
@@ -237,5 +279,9 @@ pub fn slips(seed: u64) -> bool {
     }
     let (lines, wrong) = (all_lines(&all).count(), texts.len() - 1);
     println!("calls: slips: {wrong} wrong texts of {lines} lines, {missed} not noticed");
-    missed == 0
+    let unseen: Vec<Variant> = UNSEEN
+        .into_iter()
+        .filter(|v| *v != Variant::OwnersFromOne)
+        .collect();
+    states::slips(seed, &unseen) & (missed == 0)
 }

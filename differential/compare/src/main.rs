@@ -7,6 +7,8 @@
 //!     compare answer FILE       the original's answers to the lists of a file
 //!     compare plans PROGRAM [N] our program's answers to the plans of N lists
 //!     compare calls PROGRAM [N] our program's answers to the builds and calls of N scenarios
+//!     compare runs N PROGRAM..  our programs' runs and the original's own, N scenarios
+//!     compare run-slips         wrong answers in runs are noticed
 //!     compare call-slips        wrong answers to calls are noticed
 //!     compare plan-slips        wrong answers to plans are noticed
 //!     compare store-plans DIR   lists of plans, for our program, with the original's answers
@@ -15,17 +17,23 @@
 
 mod calls;
 mod difference;
+mod host;
 mod lists;
 mod plans;
 mod program;
 mod rehearse;
+mod run_files;
+mod run_slips;
+mod runs;
 mod shrink;
 mod slips;
+mod states;
 mod store;
 mod tally;
 mod wholes;
 mod work;
 
+use std::path::PathBuf;
 use std::process::ExitCode;
 
 const SEED: u64 = 20_260_101;
@@ -61,6 +69,11 @@ fn carry_out(words: &[String]) -> Option<bool> {
             let count = number(words, 2, PLANNED)?;
             Some(calls::compare(words[1].as_ref(), SEED, count))
         }
+        (Some("runs"), 3..) => {
+            let programs: Vec<PathBuf> = words[2..].iter().map(PathBuf::from).collect();
+            Some(run_files::compare(&programs, SEED, words[1].parse().ok()?))
+        }
+        (Some("run-slips"), 1) => Some(run_slips::slips(SEED)),
         (Some("call-slips"), 1) => Some(calls::slips(SEED)),
         (Some("plan-slips"), 1) => Some(program::slips(SEED)),
         (Some("store-plans"), 2) => Some(store::store_plans(words[1].as_ref(), STORED, SEED)),
@@ -76,7 +89,7 @@ fn main() -> ExitCode {
         Some(false) => ExitCode::from(1),
         None => {
             println!(
-                "usage: compare quick | full [N] | slips [N] | store DIR [N [SEED]] | answer FILE | plans PROGRAM [N] | calls PROGRAM [N] | call-slips | plan-slips | store-plans DIR"
+                "usage: compare quick | full [N] | slips [N] | store DIR [N [SEED]] | answer FILE | plans PROGRAM [N] | calls PROGRAM [N] | runs N PROGRAM.. | run-slips | call-slips | plan-slips | store-plans DIR"
             );
             ExitCode::from(2)
         }

@@ -14,7 +14,7 @@ struct Noticed {
 /// What notices each of these variants in one scenario.
 fn notice(seed: u64, number: u64, unnoticed: &[Variant]) -> Vec<Noticed> {
     let parts = parts(seed, number);
-    let whole = wholes::comparable(&parts.whole).then(|| oracle::run_whole(&parts.whole));
+    let whole = wholes::comparable(&parts.whole).then(|| wholes::observe(&parts.whole));
     let list = lists::observe(&parts.list);
     let build = lists::observe(&parts.build);
     let plan = plans::observe(&parts.plan);

@@ -1,7 +1,7 @@
 //! Whole runs: `run_until_with_budget` against begin, step and hand back.
 use crate::difference::{Check, Comparison, Difference, Kind};
 use crate::tally::Tally;
-use model::{Answer, Call, Event, Host, Refusal, Reply, Rules, Scenario, State, Stored};
+use model::{Answer, Call, Event, Host, Refusal, Reply, Rules, Scenario, State, Stored, Task};
 use oracle::{run_whole, Origin, Ran, Whole};
 
 /// A run that takes these rules more calls does not end.
@@ -29,22 +29,34 @@ fn scripted(scenario: &Scenario, host: &Host, event: &Event) -> Reply {
     reply.cloned().unwrap_or(Reply::Emits(vec![]))
 }
 
-fn run(host: &mut Host, scenario: &Scenario, at: (u128, u64)) -> Option<Answer> {
+/// A task, carried out by these rules. None if it does not end.
+fn carry_out(host: &mut Host, scenario: &Scenario, task: &Task) -> Option<Answer> {
     let mut reply = |host: &Host, event: &Event| scripted(scenario, host, event);
-    host.run(at.0, at.1, MOST_CALLS, &mut reply)
+    match *task {
+        Task::AddInitial(message) => Some(host.call(&Call::AddInitial(message))),
+        Task::Run { horizon, budget } => host.run(horizon, budget, MOST_CALLS, &mut reply),
+    }
 }
 
-/// Whether the original can be asked: all runs end, and none is refused with what it does not have.
+/// Whether the original can be asked: all runs end, and nothing is refused with what it does not have.
 pub fn comparable(scenario: &Scenario) -> bool {
     let Ok(mut host) = start(Rules::RIGHT, scenario) else {
         return true;
     };
-    let initial = scenario.initial.iter().map(|m| Call::AddInitial(*m));
-    let added = initial
-        .map(|call| host.call(&call))
-        .all(|a| !only_in_rules(&a));
-    let mut runs = scenario.runs.iter();
-    added && runs.all(|&at| run(&mut host, scenario, at).is_some_and(|a| !only_in_rules(&a)))
+    let tasks = scenario.tasks();
+    let mut answers = tasks.iter().map(|t| carry_out(&mut host, scenario, t));
+    answers.all(|answer| answer.is_some_and(|a| !only_in_rules(&a)))
+}
+
+/// What the original does with a scenario.
+pub fn observe(scenario: &Scenario) -> Whole {
+    let Scenario {
+        setup,
+        odd,
+        replies,
+        ..
+    } = scenario;
+    run_whole(setup, odd.as_ref(), replies, &scenario.tasks())
 }
 
 fn start(rules: Rules, scenario: &Scenario) -> Result<Host, Answer> {
@@ -64,16 +76,18 @@ pub fn count(whole: &Whole, tally: &mut Tally) {
     }
 }
 
-/// After an initial event or a run.
+/// After the build or a task.
 fn check_ran(check: &Check, host: &Host, rust: &Ran, answer: &Answer) -> Option<Difference> {
     check
         .same(Kind::Answer, &rust.answer, answer)
         .or_else(|| check.counters(&rust.counters, &host.counters))
         .or_else(|| check.state(&kept(&rust.state), &kept(&host.state)))
+        .or_else(|| check.same(Kind::GvtHistory, &rust.history, &host.history))
+        .or_else(|| check.same(Kind::Handled, &rust.handled, &host.handled))
 }
 
 /// The original has no 17 and no 18.
-fn only_in_rules(answer: &Answer) -> bool {
+pub fn only_in_rules(answer: &Answer) -> bool {
     use Refusal::{PayloadTooLong, QueueFull};
     matches!(answer, Answer::Refused(PayloadTooLong(_) | QueueFull))
 }
@@ -84,32 +98,29 @@ pub fn check(rules: Rules, scenario: &Scenario, whole: &Whole) -> Option<Differe
         comparison: Comparison::WholeRun,
         at: 0,
     };
-    let mut host = match (start(rules, scenario), &whole.built) {
-        (Ok(host), Ok(())) => host,
+    let (mut host, built) = match (start(rules, scenario), &whole.built) {
+        (Ok(host), Ok(built)) => (host, built),
         (made, built) => {
             let rules = made.map_or_else(|answer| answer, |_| Answer::Accepted);
-            let rust = built.map_or_else(|(r, _)| Answer::Refused(r), |()| Answer::Accepted);
+            let refused = |(r, _): &(Refusal, Origin)| Answer::Refused(*r);
+            let rust = built
+                .as_ref()
+                .map_or_else(refused, |seen| seen.answer.clone());
             return check.same(Kind::BuildResult, &rust, &rules);
         }
     };
-    let mut initial = scenario.initial.iter();
-    let mut runs = scenario.runs.iter();
-    for rust in &whole.ran {
+    let mut found = check_ran(&check, &host, built, &Answer::Accepted);
+    for (task, rust) in scenario.tasks().iter().zip(&whole.ran) {
+        if found.is_some() {
+            return found;
+        }
         check.at += 1;
-        let answer = match initial.next() {
-            Some(message) => Some(host.call(&Call::AddInitial(*message))),
-            None => run(&mut host, scenario, *runs.next()?),
-        };
-        let Some(answer) = answer else {
+        let Some(answer) = carry_out(&mut host, scenario, task) else {
             return check.same(Kind::Ending, &"ends", &"does not end");
         };
-        if let Some(found) = check_ran(&check, &host, rust, &answer) {
-            return Some(found);
-        }
+        found = check_ran(&check, &host, rust, &answer);
     }
-    check
-        .same(Kind::GvtHistory, &whole.history, &host.history)
-        .or_else(|| check.same(Kind::Handled, &whole.handled, &host.handled))
+    found
 }
 
 /// The first difference from the rules as they are.
@@ -117,5 +128,5 @@ pub fn difference(scenario: &Scenario) -> Option<Difference> {
     if !comparable(scenario) {
         return None;
     }
-    check(Rules::RIGHT, scenario, &run_whole(scenario))
+    check(Rules::RIGHT, scenario, &observe(scenario))
 }

@@ -59,7 +59,7 @@ fn compare_one(seed: u64, number: u64, tally: &mut Tally) -> Vec<Found> {
     let parts = parts(seed, number);
     let mut all = vec![];
     if wholes::comparable(&parts.whole) {
-        let whole = oracle::run_whole(&parts.whole);
+        let whole = wholes::observe(&parts.whole);
         wholes::count(&whole, tally);
         tally.whole_runs += parts.whole.runs.len() as u64;
         let differs = wholes::check(Rules::RIGHT, &parts.whole, &whole);

@@ -2,6 +2,7 @@
 
 mod calls;
 mod dice;
+mod foreign;
 mod large;
 mod lists;
 mod odd;
@@ -13,9 +14,10 @@ mod shape;
 mod whole;
 
 pub use dice::Dice;
+pub use foreign::{foreign, CLAUSES};
 pub use lists::{list, stored_list};
 pub use plans::{any_plan, edge_plans, plan, plan_of, plans_beyond};
 pub use rehearsals::{rehearsals, Rehearsal};
 pub use replies::reply_beyond;
 pub use setups::any_setup;
-pub use whole::scenario;
+pub use whole::{built_scenario, scenario};

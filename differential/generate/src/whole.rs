@@ -4,9 +4,9 @@ use crate::dice::Dice;
 use crate::large;
 use crate::odd::odd;
 use crate::replies::message;
-use crate::setups::good_setup;
+use crate::setups::{any_setup, good_setup};
 use crate::shape::Shape;
-use model::{Answer, Call, Event, Host, Refusal, Reply, Rules, Scenario};
+use model::{Answer, Call, Event, Host, Odd, Refusal, Reply, Rules, Scenario, Setup};
 
 /// A run that takes more calls than this is left out of its scenario; so is one that ends with 18,
 /// which the original does not have.
@@ -66,14 +66,8 @@ pub fn add_runs(dice: &mut Dice, shape: &Shape, host: &mut Host, to: &mut Scenar
     to.replies = author.replies;
 }
 
-/// A scenario of whole runs.
-pub fn scenario(dice: &mut Dice) -> Scenario {
-    if dice.one_in(400) {
-        return large::scenario(dice);
-    }
-    let shape = Shape::any(dice);
-    let setup = good_setup(dice, &shape);
-    let odd = odd(dice, &shape, &setup);
+/// Initial events and runs for this setup.
+fn filled(dice: &mut Dice, shape: &Shape, setup: Setup, odd: Option<Odd>) -> Scenario {
     let mut scenario = Scenario {
         setup,
         odd,
@@ -86,11 +80,35 @@ pub fn scenario(dice: &mut Dice) -> Scenario {
             host.set(odd);
         }
         for _ in 0..dice.below(9) {
-            let message = initial(dice, &shape, &host.state);
+            let message = initial(dice, shape, &host.state);
             host.call(&Call::AddInitial(message));
             scenario.initial.push(message);
         }
-        add_runs(dice, &shape, &mut host, &mut scenario);
+        add_runs(dice, shape, &mut host, &mut scenario);
     }
     scenario
+}
+
+/// A scenario of whole runs, now and then from a state set by hand.
+pub fn scenario(dice: &mut Dice) -> Scenario {
+    if dice.one_in(400) {
+        return large::scenario(dice);
+    }
+    let shape = Shape::any(dice);
+    let setup = good_setup(dice, &shape);
+    let odd = odd(dice, &shape, &setup);
+    filled(dice, &shape, setup, odd)
+}
+
+/// One that starts from build, which may be refused.
+pub fn built_scenario(dice: &mut Dice) -> Scenario {
+    if dice.one_in(1000) {
+        return large::scenario(dice);
+    }
+    let shape = Shape::natural(dice);
+    let setup = match dice.one_in(8) {
+        true => any_setup(dice),
+        false => good_setup(dice, &shape),
+    };
+    filled(dice, &shape, setup, None)
 }

@@ -45,6 +45,27 @@ pub struct Scenario {
     pub runs: Vec<(u128, u64)>,
 }
 
+/// What is asked of a runtime once it is built: `schedule_initial` or a whole run.
+#[derive(Clone, Copy, Debug, Eq, PartialEq)]
+pub enum Task {
+    AddInitial(Message),
+    Run { horizon: u128, budget: u64 },
+}
+
+impl Scenario {
+    /// The initial events, then the runs. Behind each run one of the initial events is offered once
+    /// more; it is taken only where no run was accepted before.
+    pub fn tasks(&self) -> Vec<Task> {
+        let mut tasks: Vec<Task> = self.initial.iter().map(|m| Task::AddInitial(*m)).collect();
+        let mut late = self.initial.iter().cycle();
+        for &(horizon, budget) in &self.runs {
+            tasks.push(Task::Run { horizon, budget });
+            tasks.extend(late.next().map(|m| Task::AddInitial(*m)));
+        }
+        tasks
+    }
+}
+
 #[derive(Clone, Debug)]
 pub struct Host {
     pub rules: Rules,

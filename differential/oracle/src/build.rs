@@ -4,7 +4,7 @@ use crate::process::Scripted;
 use crate::Origin;
 use kairo_ecs_pdes::{ConservativeRuntime, LpId, PartitionPlan};
 use kairo_ecs_types::{EntityId, SimDuration};
-use model::{Refusal, Setup, MOST_PROCESSES};
+use model::{Refusal, Reply, Setup, MOST_PROCESSES};
 use std::collections::BTreeMap;
 
 pub type Runtime = ConservativeRuntime<Scripted>;
@@ -30,9 +30,15 @@ fn topology(setup: &Setup) -> BTreeMap<LpId, Vec<LpId>> {
     setup.rows().into_iter().map(row).collect()
 }
 
+/// The process with this id, which answers from its list of replies.
+fn process(id: u32, replies: &[Vec<Reply>]) -> (LpId, Scripted) {
+    let mine = replies.get(id as usize).cloned().unwrap_or_default();
+    (LpId(id), Scripted::new(mine))
+}
+
 /// The runtime, or the refusal and who gave it. The original cannot be given what 3 and 5 refuse: its
 /// maps have each id once. 2 and 4 come before them, so it is asked about those first.
-pub fn build(setup: &Setup) -> Result<Runtime, (Refusal, Origin)> {
+pub fn build(setup: &Setup, replies: &[Vec<Reply>]) -> Result<Runtime, (Refusal, Origin)> {
     if setup.n > MOST_PROCESSES {
         return Err((Refusal::InvalidPartitionCount(setup.n), Origin::Rules));
     }
@@ -45,8 +51,7 @@ pub fn build(setup: &Setup) -> Result<Runtime, (Refusal, Origin)> {
     } else {
         topology(setup)
     };
-    let ids = setup.ids.iter().map(|&id| LpId(id));
-    let processes = ids.map(|id| (id, Scripted::default())).collect();
+    let processes = setup.ids.iter().map(|&id| process(id, replies)).collect();
     let made = Runtime::new(plan, rows, processes).map_err(refusal);
     match made {
         Err(Refusal::InvalidLookahead) => Err((Refusal::InvalidLookahead, Origin::Rust)),

@@ -38,7 +38,7 @@ fn by_rust(error: RuntimeError) -> Refused {
 
 impl Oracle {
     pub fn build(setup: &Setup) -> Result<Self, Told> {
-        let runtime = build(setup).map_err(|(refused, by)| (Answer::Refused(refused), by))?;
+        let runtime = build(setup, &[]).map_err(|(refused, by)| (Answer::Refused(refused), by))?;
         Ok(Self {
             runtime,
             beside: Beside::default(),

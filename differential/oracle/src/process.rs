@@ -11,6 +11,15 @@ pub struct Scripted {
     pub handled: Vec<Message>,
 }
 
+impl Scripted {
+    pub fn new(replies: Vec<Reply>) -> Self {
+        Self {
+            replies: replies.into(),
+            handled: vec![],
+        }
+    }
+}
+
 impl ConservativeProcess for Scripted {
     /// A failure unwinds as a panic does, and prints nothing.
     fn on_event(&mut self, given: &RemoteEvent) -> Vec<RemoteEvent> {

@@ -1,91 +1,94 @@
-//! The original as whole runs, through its public interface.
+//! The original as whole runs, through its public interface: `new`, `schedule_initial` and
+//! `run_until_with_budget` as they are, with handlers that answer from lists.
+//!
+//! Public too are what was handled, the report, GVT and how many events are pending. The pending
+//! events themselves, the bounds, local horizons, next sequence number and flags are read by our
+//! accessors, between the calls.
 use crate::build::{build, Runtime};
 use crate::convert::{event, refusal, tick};
 use crate::view::{self, Beside};
 use crate::Origin;
-use kairo_ecs_pdes::LpId;
-use model::{Answer, Counters, Message, Refusal, Reply, Scenario, State};
+use model::{Answer, Counters, Message, Odd, Refusal, Reply, Setup, State, Task};
 
-/// What is seen after an initial event or a run. Of the state, what the original keeps.
+/// What is seen after a build, an initial event or a run. Of the state, what the original keeps.
 #[derive(Clone, Debug)]
 pub struct Ran {
     pub answer: Answer,
     pub counters: Counters,
     pub state: State,
-}
-
-#[derive(Clone, Debug)]
-pub struct Whole {
-    pub built: Result<(), (Refusal, Origin)>,
-    pub ran: Vec<Ran>,
     pub history: Vec<u128>,
+    /// The events that each process was handed so far.
     pub handled: Vec<Vec<Message>>,
 }
 
+/// After the build, then after each task. A refused build is alone.
+#[derive(Clone, Debug)]
+pub struct Whole {
+    pub built: Result<Ran, (Refusal, Origin)>,
+    pub ran: Vec<Ran>,
+}
+
 fn seen(runtime: &Runtime, answer: Answer) -> Ran {
+    let state = view::state(runtime, &Beside::default());
+    assert_eq!(
+        runtime.pending_events(),
+        state.pending.len(),
+        "the queues do not hold as many events as are said to be pending"
+    );
     Ran {
         answer,
         counters: view::counters(runtime),
-        state: view::state(runtime, &Beside::default()),
+        state,
+        history: view::history(runtime),
+        handled: view::handled(runtime),
     }
 }
 
-fn schedule(runtime: &mut Runtime, message: &Message) -> Ran {
-    let answer = match runtime.schedule_initial(event(message)) {
+fn schedule(runtime: &mut Runtime, message: &Message) -> Answer {
+    match runtime.schedule_initial(event(message)) {
         Ok(()) => Answer::Accepted,
         Err(error) => Answer::Refused(refusal(error)),
-    };
-    seen(runtime, answer)
+    }
 }
 
-fn run(runtime: &mut Runtime, horizon: u128, budget: u64) -> Ran {
-    let answer = match runtime.run_until_with_budget(tick(horizon), budget as usize) {
+fn run(runtime: &mut Runtime, horizon: u128, budget: u64) -> Answer {
+    match runtime.run_until_with_budget(tick(horizon), budget as usize) {
         Ok(report) => {
             assert_eq!(&report, runtime.report(), "the report is not the report");
             Answer::Finished(runtime.gvt().ticks())
         }
         Err(error) => Answer::Refused(refusal(error)),
+    }
+}
+
+fn carry_out(runtime: &mut Runtime, task: &Task) -> Ran {
+    let answer = match task {
+        Task::AddInitial(message) => schedule(runtime, message),
+        Task::Run { horizon, budget } => run(runtime, *horizon, *budget),
     };
     seen(runtime, answer)
 }
 
-fn prime(runtime: &mut Runtime, replies: &[Vec<Reply>]) {
-    let processes = runtime.inside_processes();
-    for (replies, p) in replies.iter().zip(0..) {
-        if let Some(process) = processes.get_mut(&LpId(p)) {
-            process.replies = replies.iter().cloned().collect();
-        }
-    }
-}
-
-/// Runs a scenario on the original.
-pub fn run_whole(scenario: &Scenario) -> Whole {
-    let mut runtime = match build(&scenario.setup) {
+/// Carries out these tasks on the original. Fields are set by hand only where `odd` says so.
+pub fn run_whole(
+    setup: &Setup,
+    odd: Option<&Odd>,
+    replies: &[Vec<Reply>],
+    tasks: &[Task],
+) -> Whole {
+    let mut runtime = match build(setup, replies) {
         Ok(runtime) => runtime,
         Err(refused) => {
             return Whole {
                 built: Err(refused),
                 ran: vec![],
-                history: vec![],
-                handled: vec![],
             }
         }
     };
-    prime(&mut runtime, &scenario.replies);
-    if let Some(odd) = &scenario.odd {
+    if let Some(odd) = odd {
         view::set(&mut runtime, odd);
     }
-    let mut ran = vec![];
-    for message in &scenario.initial {
-        ran.push(schedule(&mut runtime, message));
-    }
-    for &(horizon, budget) in &scenario.runs {
-        ran.push(run(&mut runtime, horizon, budget));
-    }
-    Whole {
-        built: Ok(()),
-        ran,
-        history: view::history(&runtime),
-        handled: view::handled(&runtime),
-    }
+    let built = Ok(seen(&runtime, Answer::Accepted));
+    let ran = tasks.iter().map(|t| carry_out(&mut runtime, t)).collect();
+    Whole { built, ran }
 }

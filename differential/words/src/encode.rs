@@ -1,5 +1,13 @@
 //! A list of calls as 64-bit words.
-use model::{Call, Emission, Entity, List, Message, Payload, Setup};
+use model::{Call, Counters, Emission, Entity, Event, List, Message, Payload, Setup, State};
+
+/// The process count that stands for a state given whole, in place of a build.
+const STATE: u64 = u64::MAX - 1;
+
+/// How many edges, events, local horizons and events in hand there is room for.
+const EDGES: usize = 512;
+const PENDING: usize = 512;
+const PROCESSES: usize = 64;
 
 /// The words so far, and what stands where nothing counts: in the upper half of an id word, and in
 /// the payload bytes behind the length.
@@ -104,7 +112,65 @@ impl Words {
     }
 }
 
-/// The words of a list. Private fields set by hand have no words.
+/// An event of a state. Its ids are words like any other.
+fn event(e: &Event) -> Vec<u64> {
+    let mut words = Words {
+        words: vec![],
+        noise: 0,
+    };
+    words.put([u64::from(e.destination)]);
+    words.wide(e.tick);
+    words.put([u64::from(e.source), e.sequence]);
+    words.payload(&e.payload);
+    words.words
+}
+
+impl Words {
+    /// An array of a state, as much of it as there is room for.
+    fn array(&mut self, room: usize, things: impl Iterator<Item = Vec<u64>>) {
+        let words: Vec<u64> = things.take(room).flatten().collect();
+        self.put([words.len() as u64]);
+        self.put(words);
+    }
+
+    fn state(&mut self, s: &State, c: &Counters) {
+        self.put([STATE]);
+        self.wide(s.lookahead);
+        self.put([s.n, s.next]);
+        self.wide(s.gvt);
+        self.put([u64::from(s.stored.is_some())]);
+        self.wide(s.stored.map_or(0, |stored| stored.horizon));
+        self.put([s.stored.map_or(0, |stored| stored.budget), s.used]);
+        self.put([s.initial, s.running, s.poisoned].map(u64::from));
+        self.put([s.edges.len(), s.pending.len(), s.batch.len()].map(|count| count as u64));
+        self.put([c.handled, c.emitted, c.remote, c.rounds]);
+        self.put([c.null_messages, c.worker_count]);
+        let wide = |number: u128| [(number >> 64) as u64, number as u64];
+        let edge = |(ends, bound): ([u32; 2], u128)| [ends.map(u64::from), wide(bound)].concat();
+        let edges = s.edges.iter();
+        self.array(
+            EDGES,
+            edges.map(|e| edge(([e.source, e.destination], e.bound))),
+        );
+        self.array(PENDING, s.pending.iter().map(event));
+        self.array(PROCESSES, s.horizons.iter().map(|&h| wide(h).to_vec()));
+        self.array(PROCESSES, s.batch.iter().map(event));
+    }
+}
+
+/// The words of a list on a state given whole.
+pub fn encode_given(s: &State, c: &Counters, calls: &[Call], noise: u32) -> Vec<u64> {
+    let mut words = Words {
+        words: vec![],
+        noise,
+    };
+    words.state(s, c);
+    words.put([calls.len() as u64]);
+    calls.iter().for_each(|call| words.call(call));
+    words.words
+}
+
+/// The words of a list. Private fields set by hand are left out: `encode_given` has them.
 pub fn encode(list: &List, noise: u32) -> Vec<u64> {
     let mut words = Words {
         words: vec![],

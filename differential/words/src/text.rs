@@ -93,10 +93,10 @@ fn flags(s: &State) -> String {
         .collect()
 }
 
-/// The line of a call on a state.
-pub fn line(given: &Answer, c: &Counters, s: &State) -> String {
+/// What a line begins with, and then everything that document 01 compares after a call.
+fn fields(first: String, c: &Counters, s: &State) -> String {
     let fields = [
-        answer(given),
+        first,
         counted(c, s.used),
         sizes(s),
         edges(s),
@@ -107,6 +107,16 @@ pub fn line(given: &Answer, c: &Counters, s: &State) -> String {
         flags(s),
     ];
     fields.join(" | ") + "\n"
+}
+
+/// The line of a call on a state.
+pub fn line(given: &Answer, c: &Counters, s: &State) -> String {
+    fields(answer(given), c, s)
+}
+
+/// The line of a state given whole.
+pub fn given_line(c: &Counters, s: &State) -> String {
+    fields("given".to_string(), c, s)
 }
 
 /// The line of a build that made this state.

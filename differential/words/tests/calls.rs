@@ -86,3 +86,30 @@ fn a_plan_of_more_than_4096_entities_or_places_ends_the_file() {
     assert_eq!(read(&plan(4097, 0)), 1);
     assert_eq!(read(&plan(0, 4097)), 1);
 }
+
+#[test]
+fn a_line_is_read_as_it_was_written() {
+    let list = c3();
+    let mut host = Host::build(Rules::RIGHT, &list.setup).expect("C3 is built");
+    host.state.gvt = 0xab;
+    let (numbered, tick) = (Payload::of(&[0, 255, 16]), (1 << 64) + 2);
+    let mut answer = model::Answer::Accepted;
+    for call in &list.calls {
+        let call = match call.clone() {
+            Call::AddInitial(m) => Call::AddInitial(Message {
+                payload: numbered,
+                ..m
+            }),
+            other => other,
+        };
+        answer = host.call(&call);
+    }
+    host.state.batch[0].tick = tick;
+    let text = words::line(&answer, &host.counters, &host.state);
+    let line = words::Line::of(&text).expect("it is a line");
+    assert_eq!(line.events(), Some(host.state.batch.clone()));
+    assert_eq!((line.name(), line.gvt()), ("batch", Some(0xab)));
+    assert_eq!(line.flags, "010");
+    assert_eq!(words::Line::of(text.trim_end()), None);
+    assert_eq!(words::Line::of(&text.replacen(" | ", " ", 1)), None);
+}

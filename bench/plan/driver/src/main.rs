@@ -10,9 +10,9 @@ const ROUNDS: usize = 1001;
 const PLANS: u32 = 5;
 const PROCESSES: u32 = 64;
 
-#[link(name = "timed", kind = "static")]
+#[link(name = "bench_plan", kind = "static")]
 extern "C" {
-    /// bench/plan/timed.rattle: a slice is its pointer and its length.
+    /// crates/bench_plan: a slice is its pointer and its length.
     fn timed_plan(
         count: u64,
         lookahead: u64,

@@ -1,4 +1,4 @@
-//! bench/rounds/timed.rattle: a slice is its pointer and its length.
+//! crates/bench_rounds: a slice is its pointer and its length.
 use crate::record::Recorded;
 use crate::scenario::{Ended, Scenario, LOOKAHEAD};
 
@@ -19,7 +19,7 @@ type Timed = unsafe extern "C" fn(
     out_len: usize,
 ) -> u64;
 
-#[link(name = "timed", kind = "static")]
+#[link(name = "bench_rounds", kind = "static")]
 extern "C" {
     fn timed_cores(
         n: u64,
@@ -111,11 +111,7 @@ impl<'a> Given<'a> {
     /// Through the calls by value: a build and all calls.
     pub fn calls(&self) -> Ended {
         let (came, ended) = self.run(timed_calls);
-        assert_eq!(
-            came,
-            self.words.len() as u64,
-            "not all calls were carried out"
-        );
+        assert_eq!(came, self.calls, "not all calls were carried out");
         ended
     }
 }

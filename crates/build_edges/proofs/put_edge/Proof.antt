@@ -5,8 +5,8 @@ use Rattle.build_edges.proofs.Behind.{length-one, written-one}
 use Rattle.build_edges.proofs.put_edge.Statement.{statement}
 use Rattle.build_edges.proofs.put_edge.Tie as tie
 
-widen-requires : tie.Need-widen-requires
-widen-requires c κs = search needs
+to-word-requires : tie.Need-to-word-requires
+to-word-requires c κs = search needs
 
 mul-edges : tie.Need-mul-edges
 mul-edges c = search needs
@@ -17,8 +17,8 @@ mul-edges-2 c = search needs
 slice-write-edges : tie.Need-slice-write-edges
 slice-write-edges c = search needs
 
-widen-requires-2 : tie.Need-widen-requires-2
-widen-requires-2 c κs = search needs
+to-word-requires-2 : tie.Need-to-word-requires-2
+to-word-requires-2 c κs = search needs
 
 mul-edges-3 : tie.Need-mul-edges-3
 mul-edges-3 c = search needs
@@ -51,11 +51,11 @@ pub put-edge-spec : {M : Type 1} → statement M
 put-edge-spec =
     tie.close
     (tie.spec
-    widen-requires
+    to-word-requires
     mul-edges
     mul-edges-2
     slice-write-edges
-    widen-requires-2
+    to-word-requires-2
     mul-edges-3
     add-edges
     mul-edges-4

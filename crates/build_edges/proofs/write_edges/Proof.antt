@@ -14,6 +14,9 @@ Inv-loop sources counts destinations edges₀ bound at₀ i₀ edges at i = (len
 abbrev μ-loop : tie.MeasureT-loop
 μ-loop sources counts destinations edges₀ bound at₀ i₀ edges at i = length sources - i
 
+after-zero-requires : tie.Need-after-zero-requires Inv-loop μ-loop
+after-zero-requires c κs = search needs
+
 loop-holds : tie.Need-loop-holds Inv-loop μ-loop
 loop-holds c = search writing-start depth 1
 
@@ -30,7 +33,7 @@ shared-slice-read-end : tie.Need-shared-slice-read-end Inv-loop μ-loop
 shared-slice-read-end c = search needs
 
 add-end : tie.Need-add-end Inv-loop μ-loop
-add-end c = let l = c .before .before .before in let v = l .before .before .before .before .before in omega (arith, row-fits _ _ _ _ _ (v .pre) _ _ _ (l .loop .inv .1) (c .before .before .loop-test .taken))
+add-end c = let l = c .before .before .before in let v = l .before .before .before .before .before .before in omega (arith, row-fits _ _ _ _ _ (v .pre) _ _ _ (l .loop .inv .1) (c .before .before .loop-test .taken))
 
 mul-write-row : tie.Need-mul-write-row Inv-loop μ-loop
 mul-write-row c = search needs
@@ -68,6 +71,7 @@ write-edges-spec =
     (tie.spec
     Inv-loop
     μ-loop
+    after-zero-requires
     loop-holds
     mul-t11
     shared-slice-read-t14

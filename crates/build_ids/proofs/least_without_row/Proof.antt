@@ -19,6 +19,10 @@ loop-holds c = rowed-none _ _ (c .before .pre)
 is-at-requires : tie.Need-is-at-requires Inv-loop μ-loop
 is-at-requires c κs = search needs
 
+-- p is below n, and n is at most 64.
+cast-t7 : tie.Need-cast-t7 Inv-loop μ-loop
+cast-t7 c = omega arith
+
 returns : tie.Need-returns Inv-loop μ-loop
 returns c =
     let v = c .before .before .before in
@@ -46,6 +50,7 @@ least-without-row-spec =
     μ-loop
     loop-holds
     is-at-requires
+    cast-t7
     returns
     add-p
     loop-less

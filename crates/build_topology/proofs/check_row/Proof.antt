@@ -3,47 +3,43 @@ use Prim.Native.Nat.{_-_}
 use native.Mathlib.Omega.{arith}
 use lib.ListN.{length, length-set}
 use borrow.Author.Needs.{needs}
-use Rattle.build_topology.proofs.Decided.{Stamped, stamped-checked, stamped-none, stamped-all, stamped-unknown, stamped-self, stamped-twice, stamped-new}
+use Rattle.types.specs.Value.{lpIdOf}
+use Rattle.build_topology.proofs.Decided.{Stamped, stamped-none, stamped-all, stamped-unknown, stamped-self, stamped-twice, stamped-new}
 use Rattle.build_topology.proofs.check_row.Statement.{statement}
 use Rattle.build_topology.proofs.check_row.Tie as tie
 
 abbrev Inv-loop : tie.InvT-loop
-Inv-loop destinations n marks₀ stamp p i₀ marks i = Stamped n p destinations stamp marks i × (length marks ≡ length marks₀)
+Inv-loop destinations source n marks₀ stamp i₀ marks i = Stamped n (lpIdOf source) destinations stamp marks i × (length marks ≡ length marks₀)
 
 abbrev μ-loop : tie.MeasureT-loop
-μ-loop destinations n marks₀ stamp p i₀ marks i = length destinations - i
-
-widen-requires : tie.Need-widen-requires Inv-loop μ-loop
-widen-requires c κs = search needs
+μ-loop destinations source n marks₀ stamp i₀ marks i = length destinations - i
 
 loop-holds : tie.Need-loop-holds Inv-loop μ-loop
-loop-holds c = (stamped-none _ _ _ _ _ (c .before .before .before .pre), refl)
+loop-holds c = (search stamped-none depth 1, refl)
 
-mul-widen : tie.Need-mul-widen Inv-loop μ-loop
-mul-widen c = omega arith
+mul-t10 : tie.Need-mul-t10 Inv-loop μ-loop
+mul-t10 c = omega arith
 
-shared-slice-read-widen : tie.Need-shared-slice-read-widen Inv-loop μ-loop
-shared-slice-read-widen c = omega arith
+shared-slice-read-t13 : tie.Need-shared-slice-read-t13 Inv-loop μ-loop
+shared-slice-read-t13 c = omega arith
 
-widen-requires-2 : tie.Need-widen-requires-2 Inv-loop μ-loop
-widen-requires-2 c κs = search needs
+to-word-requires : tie.Need-to-word-requires Inv-loop μ-loop
+to-word-requires c κs = search needs
 
 same-length : tie.Need-same-length Inv-loop μ-loop
 same-length c = omega arith
 
 returns : tie.Need-returns Inv-loop μ-loop
-returns c =
-    let v = c .before .before .before .before in
-    stamped-checked _ _ _ _ _ _ _ _ (v .loop .inv .0) (v .before .widen .ensures) (stamped-unknown _ _ _ _ _ _ (v .loop .inv .0) (c .before .before .before .loop-test .taken) _ (c .before .widen2 .ensures) (c .if1 .taken))
+returns c = search stamped-unknown depth 1
+
+eq-requires : tie.Need-eq-requires Inv-loop μ-loop
+eq-requires c κs = search needs
 
 same-length-2 : tie.Need-same-length-2 Inv-loop μ-loop
 same-length-2 c = omega arith
 
 returns-2 : tie.Need-returns-2 Inv-loop μ-loop
-returns-2 c =
-    let u = c .before .before in
-    let v = u .before .before .before in
-    stamped-checked _ _ _ _ _ _ _ _ (v .loop .inv .0) (v .before .widen .ensures) (stamped-self _ _ _ _ _ _ (v .loop .inv .0) (u .before .before .loop-test .taken) _ (u .widen2 .ensures) (c .before .if1 .left) (c .if2 .taken))
+returns-2 c = search stamped-self depth 1
 
 mul-if3 : tie.Need-mul-if3 Inv-loop μ-loop
 mul-if3 c = omega arith
@@ -55,10 +51,7 @@ same-length-3 : tie.Need-same-length-3 Inv-loop μ-loop
 same-length-3 c = omega arith
 
 returns-3 : tie.Need-returns-3 Inv-loop μ-loop
-returns-3 c =
-    let u = c .before .before .before .before in
-    let v = u .before .before .before in
-    stamped-checked _ _ _ _ _ _ _ _ (v .loop .inv .0) (v .before .widen .ensures) (stamped-twice _ _ _ _ _ _ (v .loop .inv .0) (u .before .before .loop-test .taken) _ (u .widen2 .ensures) (c .before .before .before .if1 .left) (c .before .before .if2 .left) (c .if3 .taken))
+returns-3 c = search stamped-twice depth 1
 
 mul-marks : tie.Need-mul-marks Inv-loop μ-loop
 mul-marks c = omega arith
@@ -73,16 +66,13 @@ loop-less : tie.Need-loop-less Inv-loop μ-loop
 loop-less c = omega arith
 
 loop-again : tie.Need-loop-again Inv-loop μ-loop
-loop-again c =
-    let u = c .before .before .before .before in
-    let v = u .before .before .before in
-    (stamped-new _ _ _ _ _ _ (v .loop .inv .0) (u .before .before .loop-test .taken) _ (u .widen2 .ensures) (c .before .before .before .if1 .left) (c .before .before .if2 .left) (c .if3 .left), rw length-set (v .loop .inv .1))
+loop-again c = (search stamped-new depth 1, rw length-set (search depth 0))
 
 same-length-4 : tie.Need-same-length-4 Inv-loop μ-loop
 same-length-4 c = omega arith
 
 returns-4 : tie.Need-returns-4 Inv-loop μ-loop
-returns-4 c = let v = c .before in stamped-checked _ _ _ _ _ _ _ _ (v .loop .inv .0) (v .before .widen .ensures) (stamped-all _ _ _ _ _ _ (v .loop .inv .0) (c .loop-test .left))
+returns-4 c = search stamped-all depth 1
 
 pub check-row-spec : {M : Type 1} → statement M
 check-row-spec =
@@ -90,13 +80,13 @@ check-row-spec =
     (tie.spec
     Inv-loop
     μ-loop
-    widen-requires
     loop-holds
-    mul-widen
-    shared-slice-read-widen
-    widen-requires-2
+    mul-t10
+    shared-slice-read-t13
+    to-word-requires
     same-length
     returns
+    eq-requires
     same-length-2
     returns-2
     mul-if3

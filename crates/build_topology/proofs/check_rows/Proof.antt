@@ -3,7 +3,7 @@ use Prim.Native.Nat.{_-_}
 use native.Mathlib.Omega.{arith}
 use lib.ListN.{length}
 use borrow.Author.Needs.{needs}
-use Rattle.build_topology.proofs.Decided.{refuses, Turned, turned-none, turned-all, turned-fits, turned-unknown, turned-refused, turned-sound}
+use Rattle.build_topology.proofs.Decided.{Turned, turned-none, turned-all, turned-unmarked, turned-fits, turned-unknown, turned-refused, turned-sound}
 use Rattle.build_topology.proofs.check_rows.Statement.{statement}
 use Rattle.build_topology.proofs.check_rows.Tie as tie
 
@@ -14,22 +14,19 @@ abbrev μ-loop : tie.MeasureT-loop
 μ-loop sources counts destinations n marks₀ at₀ i₀ marks at i = length sources - i
 
 loop-holds : tie.Need-loop-holds Inv-loop μ-loop
-loop-holds c = turned-none _ _ _ _ (c .before .before .before .pre)
+loop-holds c = search turned-none depth 1
 
-mul-source : tie.Need-mul-source Inv-loop μ-loop
-mul-source c = omega arith
+mul-t12 : tie.Need-mul-t12 Inv-loop μ-loop
+mul-t12 c = omega arith
 
-shared-slice-read-source : tie.Need-shared-slice-read-source Inv-loop μ-loop
-shared-slice-read-source c = omega arith
+shared-slice-read-t15 : tie.Need-shared-slice-read-t15 Inv-loop μ-loop
+shared-slice-read-t15 c = omega arith
 
-widen-requires : tie.Need-widen-requires Inv-loop μ-loop
-widen-requires c κs = search needs
+to-word-requires : tie.Need-to-word-requires Inv-loop μ-loop
+to-word-requires c κs = search needs
 
 returns : tie.Need-returns Inv-loop μ-loop
-returns c =
-    let v = c .before .before .before .before in
-    let s = v .before .before .before .before in
-    turned-unknown _ _ _ _ (s .pre) _ _ _ (v .loop .inv) (c .before .before .before .loop-test .taken) _ (c .before .widen .ensures) (omega arith)
+returns c = search turned-unknown depth 1
 
 mul-end : tie.Need-mul-end Inv-loop μ-loop
 mul-end c = omega arith
@@ -40,8 +37,7 @@ shared-slice-read-end c = omega arith
 add-end : tie.Need-add-end Inv-loop μ-loop
 add-end c =
     let v = c .before .before .before .before .before in
-    let s = v .before .before .before .before in
-    omega (arith, turned-fits _ _ _ _ (s .pre) _ _ _ (v .loop .inv) (c .before .before .before .before .loop-test .taken))
+    omega (arith, turned-fits _ _ _ _ (v .before .before .before .before .pre) _ _ _ (v .loop .inv) (c .before .before .before .before .loop-test .taken))
 
 add-stamp : tie.Need-add-stamp Inv-loop μ-loop
 add-stamp c = omega arith
@@ -56,19 +52,13 @@ part-check-row-start : tie.Need-part-check-row-start Inv-loop μ-loop
 part-check-row-start c = omega arith
 
 part-check-row-end : tie.Need-part-check-row-end Inv-loop μ-loop
-part-check-row-end c =
-    let v = c .before .before .before .before .before in
-    let s = v .before .before .before .before in
-    turned-fits _ _ _ _ (s .pre) _ _ _ (v .loop .inv) (c .before .before .before .before .loop-test .taken)
+part-check-row-end c = search turned-fits depth 1
 
 slice-aggregate-check-row : tie.Need-slice-aggregate-check-row Inv-loop μ-loop
 slice-aggregate-check-row c = omega arith
 
 check-row-requires : tie.Need-check-row-requires Inv-loop μ-loop
-check-row-requires c κs =
-    let v = c .before .before .before .before .before .before .before in
-    let s = v .before .before .before .before in
-    record { room = omega (arith, s .pre .few, v .loop .inv .room); unmarked = λ x. omega (arith, v .loop .inv .low x) }
+check-row-requires c κs = search turned-unmarked depth 1
 
 enum-told : tie.Need-enum-told Inv-loop μ-loop
 enum-told c = search needs
@@ -82,21 +72,15 @@ loop-less c = omega arith
 loop-again : tie.Need-loop-again Inv-loop μ-loop
 loop-again c =
     let j = c .before .before .before in
-    let u = j .before .before .before .before in
-    let v = u .before .before .before .before in
-    let s = v .before .before .before .before in
-    turned-sound _ _ _ _ (s .pre) _ _ _ (v .loop .inv) (u .before .before .before .loop-test .taken) _ _ _ (u .before .widen .ensures) refl (omega arith) (rw (c .enum-told .given .1) at (j .check-row .ensures .answer)) (j .check-row .ensures .marked) (j .check-row .kept .1 .1 .1 .0)
+    let t = j .before .before .before .before .before in
+    let v = t .before .before .before in
+    turned-sound _ _ _ _ (v .before .before .before .before .pre) _ _ _ (v .loop .inv) (t .before .before .loop-test .taken) _ (t .to-word .ensures) (j .before .before .before .before .if1 .left) _ refl _ _ (j .check-row .ensures) (c .enum-told .given .1) (j .check-row .kept .1 .1 .1 .0)
 
 returns-2 : tie.Need-returns-2 Inv-loop μ-loop
-returns-2 c =
-    let j = c .before .before in
-    let u = j .before .before .before .before in
-    let v = u .before .before .before .before in
-    let s = v .before .before .before .before in
-    turned-refused _ _ _ _ (s .pre) _ _ _ (v .loop .inv) (u .before .before .before .loop-test .taken) _ _ _ (u .before .widen .ensures) refl (omega arith) (j .check-row .ensures .answer) (refuses (j .check-row .result) (c .match .keys2))
+returns-2 c = search turned-refused depth 1
 
 returns-3 : tie.Need-returns-3 Inv-loop μ-loop
-returns-3 c = let v = c .before in let s = v .before .before .before .before in turned-all _ _ _ _ (s .pre) _ _ _ (v .loop .inv) (c .loop-test .left)
+returns-3 c = search turned-all depth 1
 
 pub check-rows-spec : {M : Type 1} → statement M
 check-rows-spec =
@@ -105,9 +89,9 @@ check-rows-spec =
     Inv-loop
     μ-loop
     loop-holds
-    mul-source
-    shared-slice-read-source
-    widen-requires
+    mul-t12
+    shared-slice-read-t15
+    to-word-requires
     returns
     mul-end
     shared-slice-read-end

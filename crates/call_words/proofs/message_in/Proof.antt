@@ -3,26 +3,26 @@ use Rattle.call_words.proofs.Decoding.{message-is}
 use Rattle.call_words.proofs.message_in.Statement.{statement}
 use Rattle.call_words.proofs.message_in.Tie as tie
 
-mul-lp-id-of : tie.Need-mul-lp-id-of
-mul-lp-id-of c = search needs
+mul-from-word : tie.Need-mul-from-word
+mul-from-word c = search needs
 
-shared-slice-read-lp-id-of : tie.Need-shared-slice-read-lp-id-of
-shared-slice-read-lp-id-of c = search needs
+shared-slice-read-from-word : tie.Need-shared-slice-read-from-word
+shared-slice-read-from-word c = search needs
 
-lp-id-of-requires : tie.Need-lp-id-of-requires
-lp-id-of-requires c κs = search needs
+from-word-requires : tie.Need-from-word-requires
+from-word-requires c κs = search needs
 
-add-lp-id-of : tie.Need-add-lp-id-of
-add-lp-id-of c = search needs
+add-from-word : tie.Need-add-from-word
+add-from-word c = search needs
 
-mul-lp-id-of-2 : tie.Need-mul-lp-id-of-2
-mul-lp-id-of-2 c = search needs
+mul-from-word-2 : tie.Need-mul-from-word-2
+mul-from-word-2 c = search needs
 
-shared-slice-read-lp-id-of-2 : tie.Need-shared-slice-read-lp-id-of-2
-shared-slice-read-lp-id-of-2 c = search needs
+shared-slice-read-from-word-2 : tie.Need-shared-slice-read-from-word-2
+shared-slice-read-from-word-2 c = search needs
 
-lp-id-of-requires-2 : tie.Need-lp-id-of-requires-2
-lp-id-of-requires-2 c κs = search needs
+from-word-requires-2 : tie.Need-from-word-requires-2
+from-word-requires-2 c κs = search needs
 
 add-tick-in : tie.Need-add-tick-in
 add-tick-in c = search needs
@@ -64,13 +64,13 @@ pub message-in-spec : {M : Type 1} → statement M
 message-in-spec =
     tie.close
     (tie.spec
-    mul-lp-id-of
-    shared-slice-read-lp-id-of
-    lp-id-of-requires
-    add-lp-id-of
-    mul-lp-id-of-2
-    shared-slice-read-lp-id-of-2
-    lp-id-of-requires-2
+    mul-from-word
+    shared-slice-read-from-word
+    from-word-requires
+    add-from-word
+    mul-from-word-2
+    shared-slice-read-from-word-2
+    from-word-requires-2
     add-tick-in
     tick-in-requires
     add-t14

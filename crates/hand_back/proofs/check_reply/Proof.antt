@@ -1,5 +1,5 @@
 use borrow.Author.Needs.{needs}
-use Rattle.hand_back.proofs.ReplyChecking.{begun, reviewed, whole}
+use Rattle.hand_back.proofs.ReplyChecking.{begun, checks-reply, whole}
 use Rattle.hand_back.proofs.check_reply.Statement.{statement}
 use Rattle.hand_back.proofs.check_reply.Tie as tie
 
@@ -28,7 +28,7 @@ returns : tie.Need-returns
 returns c =
     let begin = c .before .before .before .before .before in
     let start = begin .before .before .before .before .before .before .before in
-    reviewed (start .args .head) _ _ _ (start .args .mask) _ _ _ (start .pre .0) (start .pre .1) (start .pre .2) (begin .begin-check .ensures) _ _ (c .check-words .ensures)
+    checks-reply (start .args .head) _ _ _ (start .args .mask) _ _ _ (start .pre .0) (start .pre .1) (start .pre .2) (begin .begin-check .ensures) _ _ (c .check-words .ensures)
 
 pub check-reply-spec : {M : Type 1} → statement M
 check-reply-spec =

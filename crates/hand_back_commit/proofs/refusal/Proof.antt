@@ -3,6 +3,9 @@ use Rattle.hand_back_commit.proofs.Ending.{refusal-27, refusal-19, refu
 use Rattle.hand_back_commit.proofs.refusal.Statement.{statement}
 use Rattle.hand_back_commit.proofs.refusal.Tie as tie
 
+from-word-requires : tie.Need-from-word-requires
+from-word-requires c κs = search needs
+
 returns : tie.Need-returns
 returns c = search refusal-27 depth 1
 
@@ -25,6 +28,7 @@ pub refusal-spec : {M : Type 1} → statement M
 refusal-spec =
     tie.close
     (tie.spec
+    from-word-requires
     returns
     sequence-exhausted-requires
     returns-2

@@ -3,9 +3,7 @@ use contract.Running.{givenOf, tables, tablesOf}
 use denote.Triple.Spec.{tripleOf}
 use denote.Triple.Table.{entered, cited}
 use Rattle.rules.specs.Reads.{readEarliest}
-use Rattle.reads.proofs.read_earliest.Symbol as core-def
-use Rattle.reads.proofs.read_earliest.Symbol.{name as #reads·read-earliest}
-use Rattle.reads.proofs.read_earliest.Met as core-thm
+use Rattle.reads.proofs.read_earliest as core
 use Rattle.host.proofs.Reading.{Core, reads-meet}
 use Rattle.host.proofs.read_earliest.Key.{name as #host·read-earliest}
 use Rattle.host.proofs.read_earliest as f
@@ -17,5 +15,5 @@ unfolding code.routine tablesOf
 read-earliest-spec 𝓤 H 𝓜 𝓖 𝓡 =
     entered 𝓤 H (tripleOf 𝓤 H (𝓖 .A) f.signature (f.spec 𝓤 H (𝓖 .A) (𝓜 .mem) (𝓡 .run)))
     (tables 𝓤 H 𝓜 𝓡 code.env .C) (tables 𝓤 H 𝓜 𝓡 code.env .Λ) #host·read-earliest code.function (code.unfolded 𝓤 H 𝓜 𝓡)
-    (reads-meet 𝓤 H (𝓖 .A) readEarliest (givenOf 𝓤 H 𝓜 𝓖) (tablesOf 𝓤 H 𝓜 (tables 𝓤 H 𝓜 𝓡 code.env)) #reads·read-earliest
-    (cited 𝓤 H (Core 𝓤 H (𝓖 .A) readEarliest) 𝓜 𝓡 code.env #reads·read-earliest core-def.routine code.calls-reads·read-earliest (core-thm.met 𝓤 H 𝓜 𝓖 𝓡)))
+    (reads-meet 𝓤 H (𝓖 .A) readEarliest (givenOf 𝓤 H 𝓜 𝓖) (tablesOf 𝓤 H 𝓜 (tables 𝓤 H 𝓜 𝓡 code.env)) core.Symbol.name
+    (cited 𝓤 H (Core 𝓤 H (𝓖 .A) readEarliest) 𝓜 𝓡 code.env core.Symbol.name core.Symbol.routine code.calls-reads·read-earliest (core.Met.met 𝓤 H 𝓜 𝓖 𝓡)))

@@ -3,9 +3,7 @@ use contract.Running.{givenOf, tables, tablesOf}
 use denote.Triple.Spec.{tripleOf}
 use denote.Triple.Table.{entered, cited}
 use Rattle.rules.specs.Reads.{readGvt}
-use Rattle.reads.proofs.read_gvt.Symbol as core-def
-use Rattle.reads.proofs.read_gvt.Symbol.{name as #reads·read-gvt}
-use Rattle.reads.proofs.read_gvt.Met as core-thm
+use Rattle.reads.proofs.read_gvt as core
 use Rattle.host.proofs.Reading.{Core, reads-meet}
 use Rattle.host.proofs.read_gvt.Key.{name as #host·read-gvt}
 use Rattle.host.proofs.read_gvt as f
@@ -17,5 +15,5 @@ unfolding code.routine tablesOf
 read-gvt-spec 𝓤 H 𝓜 𝓖 𝓡 =
     entered 𝓤 H (tripleOf 𝓤 H (𝓖 .A) f.signature (f.spec 𝓤 H (𝓖 .A) (𝓜 .mem) (𝓡 .run)))
     (tables 𝓤 H 𝓜 𝓡 code.env .C) (tables 𝓤 H 𝓜 𝓡 code.env .Λ) #host·read-gvt code.function (code.unfolded 𝓤 H 𝓜 𝓡)
-    (reads-meet 𝓤 H (𝓖 .A) readGvt (givenOf 𝓤 H 𝓜 𝓖) (tablesOf 𝓤 H 𝓜 (tables 𝓤 H 𝓜 𝓡 code.env)) #reads·read-gvt
-    (cited 𝓤 H (Core 𝓤 H (𝓖 .A) readGvt) 𝓜 𝓡 code.env #reads·read-gvt core-def.routine code.calls-reads·read-gvt (core-thm.met 𝓤 H 𝓜 𝓖 𝓡)))
+    (reads-meet 𝓤 H (𝓖 .A) readGvt (givenOf 𝓤 H 𝓜 𝓖) (tablesOf 𝓤 H 𝓜 (tables 𝓤 H 𝓜 𝓡 code.env)) core.Symbol.name
+    (cited 𝓤 H (Core 𝓤 H (𝓖 .A) readGvt) 𝓜 𝓡 code.env core.Symbol.name core.Symbol.routine code.calls-reads·read-gvt (core.Met.met 𝓤 H 𝓜 𝓖 𝓡)))

@@ -3,9 +3,7 @@ use contract.Running.{givenOf, tables, tablesOf}
 use denote.Triple.Spec.{tripleOf}
 use denote.Triple.Table.{entered, cited}
 use Rattle.rules.specs.Reads.{readPending}
-use Rattle.reads.proofs.read_pending.Symbol as core-def
-use Rattle.reads.proofs.read_pending.Symbol.{name as #reads·read-pending}
-use Rattle.reads.proofs.read_pending.Met as core-thm
+use Rattle.reads.proofs.read_pending as core
 use Rattle.host.proofs.Reading.{Core, reads-meet}
 use Rattle.host.proofs.read_pending.Key.{name as #host·read-pending}
 use Rattle.host.proofs.read_pending as f
@@ -17,5 +15,5 @@ unfolding code.routine tablesOf
 read-pending-spec 𝓤 H 𝓜 𝓖 𝓡 =
     entered 𝓤 H (tripleOf 𝓤 H (𝓖 .A) f.signature (f.spec 𝓤 H (𝓖 .A) (𝓜 .mem) (𝓡 .run)))
     (tables 𝓤 H 𝓜 𝓡 code.env .C) (tables 𝓤 H 𝓜 𝓡 code.env .Λ) #host·read-pending code.function (code.unfolded 𝓤 H 𝓜 𝓡)
-    (reads-meet 𝓤 H (𝓖 .A) readPending (givenOf 𝓤 H 𝓜 𝓖) (tablesOf 𝓤 H 𝓜 (tables 𝓤 H 𝓜 𝓡 code.env)) #reads·read-pending
-    (cited 𝓤 H (Core 𝓤 H (𝓖 .A) readPending) 𝓜 𝓡 code.env #reads·read-pending core-def.routine code.calls-reads·read-pending (core-thm.met 𝓤 H 𝓜 𝓖 𝓡)))
+    (reads-meet 𝓤 H (𝓖 .A) readPending (givenOf 𝓤 H 𝓜 𝓖) (tablesOf 𝓤 H 𝓜 (tables 𝓤 H 𝓜 𝓡 code.env)) core.Symbol.name
+    (cited 𝓤 H (Core 𝓤 H (𝓖 .A) readPending) 𝓜 𝓡 code.env core.Symbol.name core.Symbol.routine code.calls-reads·read-pending (core.Met.met 𝓤 H 𝓜 𝓖 𝓡)))

@@ -1,5 +1,4 @@
 use borrow.Author.Needs.{needs}
-use Rattle.hand_back_commit.proofs.Ending.{endable}
 use Rattle.host_hand_back.proofs.commit.Statement.{statement}
 use Rattle.host_hand_back.proofs.commit.Tie as tie
 
@@ -10,9 +9,7 @@ slice-aggregate-commit-round-2 : tie.Need-slice-aggregate-commit-round-2
 slice-aggregate-commit-round-2 c = search needs
 
 commit-round-requires : tie.Need-commit-round-requires
-commit-round-requires c κs =
-    let start = c .before .before .before .before .before .before .before .before .before .before .before in
-    endable _ _ _ _ _ _ _ (start .pre .0) (start .pre .1) (search needs)
+commit-round-requires c κs = search needs
 
 returns : tie.Need-returns
 returns c = search needs

@@ -1,13 +1,13 @@
 use borrow.Author.Needs.{needs}
 use Rattle.rules.proofs.Tests.{not-true, not-false}
-use Rattle.host_hand_back.proofs.Passing.{turned-away, taken-in}
+use Rattle.host_hand_back.proofs.Passing.{enqueues-nothing, enqueues-one}
 use Rattle.host_hand_back.proofs.enqueue_in.Statement.{statement}
 use Rattle.host_hand_back.proofs.enqueue_in.Tie as tie
 
 returns : tie.Need-returns
 returns c =
     let start = c .before .before .before in
-    turned-away _ (start .args .a) (start .args .e) (not-true _ (c .if1 .taken))
+    enqueues-nothing _ (start .args .a) (start .args .e) (not-true _ (c .if1 .taken))
 
 enqueue-requires : tie.Need-enqueue-requires
 enqueue-requires c κs =
@@ -22,7 +22,7 @@ returns-2 c =
     let enqueue = c .before .before in
     let going = enqueue .before .before .before .before in
     let start = going .before .before .before in
-    taken-in _ (start .args .a) (start .args .e) (not-false _ (going .if1 .left)) (enqueue .enqueue .result) _ (enqueue .enqueue .ensures)
+    enqueues-one _ (start .args .a) (start .args .e) (not-false _ (going .if1 .left)) (enqueue .enqueue .result) _ (enqueue .enqueue .ensures)
 
 pub enqueue-in-spec : {M : Type 1} → statement M
 enqueue-in-spec = tie.close (tie.spec returns enqueue-requires same-length returns-2)

@@ -1,50 +1,55 @@
 use borrow.Author.Needs.{needs}
-use mathlib.Core.Path.{refl}
-use Rattle.reply_words.specs.Emissions.{emissionIn}
+use Rattle.reply_words.proofs.Reading.{emission-read}
 use Rattle.reply_words.proofs.emission_in.Statement.{statement}
 use Rattle.reply_words.proofs.emission_in.Tie as tie
 
-mul-t3 : tie.Need-mul-t3
-mul-t3 c = search needs
+mul-from-word : tie.Need-mul-from-word
+mul-from-word c = search needs
 
-shared-slice-read-t5 : tie.Need-shared-slice-read-t5
-shared-slice-read-t5 c = search needs
+shared-slice-read-from-word : tie.Need-shared-slice-read-from-word
+shared-slice-read-from-word c = search needs
 
-add-t6 : tie.Need-add-t6
-add-t6 c = search needs
+from-word-requires : tie.Need-from-word-requires
+from-word-requires c κs = search needs
 
-mul-t7 : tie.Need-mul-t7
-mul-t7 c = search needs
+add-from-word : tie.Need-add-from-word
+add-from-word c = search needs
 
-shared-slice-read-t9 : tie.Need-shared-slice-read-t9
-shared-slice-read-t9 c = search needs
+mul-from-word-2 : tie.Need-mul-from-word-2
+mul-from-word-2 c = search needs
 
-add-t10 : tie.Need-add-t10
-add-t10 c = search needs
+shared-slice-read-from-word-2 : tie.Need-shared-slice-read-from-word-2
+shared-slice-read-from-word-2 c = search needs
 
-mul-t11 : tie.Need-mul-t11
-mul-t11 c = search needs
+from-word-requires-2 : tie.Need-from-word-requires-2
+from-word-requires-2 c κs = search needs
 
-shared-slice-read-t13 : tie.Need-shared-slice-read-t13
-shared-slice-read-t13 c = search needs
+add-from-word-2 : tie.Need-add-from-word-2
+add-from-word-2 c = search needs
 
-add-t14 : tie.Need-add-t14
-add-t14 c = search needs
+mul-from-word-3 : tie.Need-mul-from-word-3
+mul-from-word-3 c = search needs
 
-mul-t15 : tie.Need-mul-t15
-mul-t15 c = search needs
+shared-slice-read-from-word-3 : tie.Need-shared-slice-read-from-word-3
+shared-slice-read-from-word-3 c = search needs
 
-shared-slice-read-t17 : tie.Need-shared-slice-read-t17
-shared-slice-read-t17 c = search needs
+from-word-requires-3 : tie.Need-from-word-requires-3
+from-word-requires-3 c κs = search needs
 
-add-t18 : tie.Need-add-t18
-add-t18 c = search needs
+add-tick-in : tie.Need-add-tick-in
+add-tick-in c = search needs
 
-mul-t19 : tie.Need-mul-t19
-mul-t19 c = search needs
+tick-in-requires : tie.Need-tick-in-requires
+tick-in-requires c κs = search needs
 
-shared-slice-read-t21 : tie.Need-shared-slice-read-t21
-shared-slice-read-t21 c = search needs
+add-t19 : tie.Need-add-t19
+add-t19 c = search needs
+
+mul-t20 : tie.Need-mul-t20
+mul-t20 c = search needs
+
+shared-slice-read-t22 : tie.Need-shared-slice-read-t22
+shared-slice-read-t22 c = search needs
 
 add-t23 : tie.Need-add-t23
 add-t23 c = search needs
@@ -64,44 +69,33 @@ mul-t28 c = search needs
 shared-slice-read-t30 : tie.Need-shared-slice-read-t30
 shared-slice-read-t30 c = search needs
 
-add-t31 : tie.Need-add-t31
-add-t31 c = search needs
-
-mul-t32 : tie.Need-mul-t32
-mul-t32 c = search needs
-
-shared-slice-read-t34 : tie.Need-shared-slice-read-t34
-shared-slice-read-t34 c = search needs
-
 returns : tie.Need-returns
-unfolding emissionIn
-returns c = refl
+returns c = search emission-read depth 1
 
 pub emission-in-spec : {M : Type 1} → statement M
 emission-in-spec =
     tie.close
     (tie.spec
-    mul-t3
-    shared-slice-read-t5
-    add-t6
-    mul-t7
-    shared-slice-read-t9
-    add-t10
-    mul-t11
-    shared-slice-read-t13
-    add-t14
-    mul-t15
-    shared-slice-read-t17
-    add-t18
-    mul-t19
-    shared-slice-read-t21
+    mul-from-word
+    shared-slice-read-from-word
+    from-word-requires
+    add-from-word
+    mul-from-word-2
+    shared-slice-read-from-word-2
+    from-word-requires-2
+    add-from-word-2
+    mul-from-word-3
+    shared-slice-read-from-word-3
+    from-word-requires-3
+    add-tick-in
+    tick-in-requires
+    add-t19
+    mul-t20
+    shared-slice-read-t22
     add-t23
     mul-t24
     shared-slice-read-t26
     add-t27
     mul-t28
     shared-slice-read-t30
-    add-t31
-    mul-t32
-    shared-slice-read-t34
     returns)

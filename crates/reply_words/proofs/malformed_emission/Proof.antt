@@ -3,6 +3,9 @@ use Rattle.reply_words.proofs.Passing.{malformed-fallen, malformed-past
 use Rattle.reply_words.proofs.malformed_emission.Statement.{statement}
 use Rattle.reply_words.proofs.malformed_emission.Tie as tie
 
+to-word-requires : tie.Need-to-word-requires
+to-word-requires c κs = search needs
+
 returns : tie.Need-returns
 returns c = search malformed-fallen depth 1
 
@@ -31,6 +34,7 @@ pub malformed-emission-spec : {M : Type 1} → statement M
 malformed-emission-spec =
     tie.close
     (tie.spec
+    to-word-requires
     returns
     returns-2
     mul-if3

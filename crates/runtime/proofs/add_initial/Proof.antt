@@ -8,7 +8,7 @@ is-foreign-requires : tie.Need-is-foreign-requires
 is-foreign-requires c κs = search needs
 
 refuse-foreign-requires : tie.Need-refuse-foreign-requires
-refuse-foreign-requires c κs = search judged depth 1
+refuse-foreign-requires c κs = judged _ _ _ (c .before .is-foreign .ensures) (c .if1 .taken)
 
 returns : tie.Need-returns
 returns c = c .refuse-foreign .ensures _
@@ -17,10 +17,16 @@ slice-aggregate-add-initial : tie.Need-slice-aggregate-add-initial
 slice-aggregate-add-initial c = search needs
 
 add-initial-requires : tie.Need-add-initial-requires
-add-initial-requires c κs = (search (can-look, judged) depth 2, search (can-queue, judged) depth 2)
+add-initial-requires c κs =
+    let going = c .before .before .before .before .before in
+    let given = going .before .before .before .before .before .before .before .before .before .before .args .t1 in
+    (can-look given (judged given _ _ (going .before .is-foreign .ensures) (going .if1 .left)) (search needs), can-queue given (judged given _ _ (going .before .is-foreign .ensures) (going .if1 .left)) (search needs))
 
 returns-2 : tie.Need-returns-2
-returns-2 c = carries-initial _ (search judged depth 1) _ _ _ _ (search depth 0)
+returns-2 c =
+    let added = c .before .before in
+    let going = added .before .before .before .before .before .before in
+    carries-initial _ (judged _ _ _ (going .before .is-foreign .ensures) (going .if1 .left)) _ _ _ _ (added .add-initial .ensures)
 
 pub add-initial-spec : {M : Type 1} → statement M
 add-initial-spec =

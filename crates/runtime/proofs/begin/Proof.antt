@@ -8,7 +8,7 @@ is-foreign-requires : tie.Need-is-foreign-requires
 is-foreign-requires c κs = search needs
 
 refuse-foreign-requires : tie.Need-refuse-foreign-requires
-refuse-foreign-requires c κs = search judged depth 1
+refuse-foreign-requires c κs = judged _ _ _ (c .before .is-foreign .ensures) (c .if1 .taken)
 
 returns : tie.Need-returns
 returns c = c .refuse-foreign .ensures _
@@ -17,7 +17,10 @@ begin-requires : tie.Need-begin-requires
 begin-requires c κs = search needs
 
 returns-2 : tie.Need-returns-2
-returns-2 c = carries-begin _ (search judged depth 1) _ _ _ _ (search depth 0)
+returns-2 c =
+    let begun = c .before in
+    let going = begun .before in
+    carries-begin _ (judged _ _ _ (going .before .is-foreign .ensures) (going .if1 .left)) _ _ _ _ (begun .begin .ensures)
 
 pub begin-spec : {M : Type 1} → statement M
 begin-spec =

@@ -8,7 +8,7 @@ is-foreign-requires : tie.Need-is-foreign-requires
 is-foreign-requires c κs = search needs
 
 refuse-foreign-requires : tie.Need-refuse-foreign-requires
-refuse-foreign-requires c κs = search judged depth 1
+refuse-foreign-requires c κs = judged _ _ _ (c .before .is-foreign .ensures) (c .if1 .taken)
 
 returns : tie.Need-returns
 returns c = c .refuse-foreign .ensures _
@@ -26,7 +26,7 @@ hand-back-requires : tie.Need-hand-back-requires
 hand-back-requires c κs = search (can-lend, judged, needs)
 
 returns-2 : tie.Need-returns-2
-returns-2 c = carries-back _ _ _ _ _ _ _ _ (search depth 0)
+returns-2 c = carries-back _ _ _ _ _ _ _ _ (c .before .before .before .before .before .hand-back .ensures)
 
 pub hand-back-spec : {M : Type 1} → statement M
 hand-back-spec =

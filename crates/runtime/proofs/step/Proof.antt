@@ -8,7 +8,7 @@ is-foreign-requires : tie.Need-is-foreign-requires
 is-foreign-requires c κs = search needs
 
 refuse-foreign-requires : tie.Need-refuse-foreign-requires
-refuse-foreign-requires c κs = search judged depth 1
+refuse-foreign-requires c κs = judged _ _ _ (c .before .is-foreign .ensures) (c .if1 .taken)
 
 returns : tie.Need-returns
 returns c = c .refuse-foreign .ensures _
@@ -29,7 +29,7 @@ step-requires : tie.Need-step-requires
 step-requires c κs = search (can-lend, judged, needs)
 
 returns-2 : tie.Need-returns-2
-returns-2 c = carries-step _ _ _ _ _ _ _ (search depth 0)
+returns-2 c = carries-step _ _ _ _ _ _ _ (c .before .before .before .before .before .before .step .ensures)
 
 pub step-spec : {M : Type 1} → statement M
 step-spec =

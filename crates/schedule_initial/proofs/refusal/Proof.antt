@@ -12,27 +12,27 @@ returns-2 c =
     let healthy = c .before .before in
     add-closed _ _ _ (healthy .if1 .left) (not-true _ (c .if2 .taken))
 
-widen-requires : tie.Need-widen-requires
-widen-requires c κs = search needs
+to-word-requires : tie.Need-to-word-requires
+to-word-requires c κs = search needs
 
 returns-3 : tie.Need-returns-3
 returns-3 c =
     let from = c .before in
-    let opened = from .before .before in
+    let opened = from .before .before .before in
     let healthy = opened .before .before in
-    add-source _ _ _ (healthy .if1 .left) (not-false _ (opened .if2 .left)) _ (from .widen .ensures) (c .if3 .taken)
+    add-source _ _ _ (healthy .if1 .left) (not-false _ (opened .if2 .left)) _ (from .to-word .ensures) (c .if3 .taken)
 
-widen-requires-2 : tie.Need-widen-requires-2
-widen-requires-2 c κs = search needs
+to-word-requires-2 : tie.Need-to-word-requires-2
+to-word-requires-2 c κs = search needs
 
 returns-4 : tie.Need-returns-4
 returns-4 c =
     let to = c .before in
-    let known = to .before .before in
+    let known = to .before in
     let from = known .before in
-    let opened = from .before .before in
+    let opened = from .before .before .before in
     let healthy = opened .before .before in
-    add-destination _ _ _ (healthy .if1 .left) (not-false _ (opened .if2 .left)) _ (from .widen .ensures) (known .if3 .left) _ (to .widen2 .ensures) (c .if4 .taken)
+    add-destination _ _ _ (healthy .if1 .left) (not-false _ (opened .if2 .left)) _ (from .to-word .ensures) (known .if3 .left) _ (to .to-word2 .ensures) (c .if4 .taken)
 
 has-route-requires : tie.Need-has-route-requires
 has-route-requires c κs = search needs
@@ -42,11 +42,11 @@ returns-5 c =
     let routed = c .before in
     let reached = routed .before in
     let to = reached .before in
-    let known = to .before .before in
+    let known = to .before in
     let from = known .before in
-    let opened = from .before .before in
+    let opened = from .before .before .before in
     let healthy = opened .before .before in
-    add-unrouted _ _ _ (healthy .if1 .left) (not-false _ (opened .if2 .left)) _ (from .widen .ensures) (known .if3 .left) _ (to .widen2 .ensures) (reached .if4 .left) _ (routed .has-route .ensures) (not-true _ (c .if5 .taken))
+    add-unrouted _ _ _ (healthy .if1 .left) (not-false _ (opened .if2 .left)) _ (from .to-word .ensures) (known .if3 .left) _ (to .to-word2 .ensures) (reached .if4 .left) _ (routed .has-route .ensures) (not-true _ (c .if5 .taken))
 
 queue-refusal-requires : tie.Need-queue-refusal-requires
 queue-refusal-requires c κs = search needs
@@ -57,11 +57,11 @@ returns-6 c =
     let routed = found .before in
     let reached = routed .before in
     let to = reached .before in
-    let known = to .before .before in
+    let known = to .before in
     let from = known .before in
-    let opened = from .before .before in
+    let opened = from .before .before .before in
     let healthy = opened .before .before in
-    add-queued _ _ _ (healthy .if1 .left) (not-false _ (opened .if2 .left)) _ (from .widen .ensures) (known .if3 .left) _ (to .widen2 .ensures) (reached .if4 .left) _ (routed .has-route .ensures) (not-false _ (found .if5 .left)) _ (c .queue-refusal .ensures)
+    add-queued _ _ _ (healthy .if1 .left) (not-false _ (opened .if2 .left)) _ (from .to-word .ensures) (known .if3 .left) _ (to .to-word2 .ensures) (reached .if4 .left) _ (routed .has-route .ensures) (not-false _ (found .if5 .left)) _ (c .queue-refusal .ensures)
 
 pub refusal-spec : {M : Type 1} → statement M
 refusal-spec =
@@ -69,9 +69,9 @@ refusal-spec =
     (tie.spec
     returns
     returns-2
-    widen-requires
+    to-word-requires
     returns-3
-    widen-requires-2
+    to-word-requires-2
     returns-4
     has-route-requires
     returns-5

@@ -1,0 +1,29 @@
+-- Each holds by computation.
+use mathlib.Core.Path.{refl}
+use Rattle.rules.specs.Opened.{all-rules}
+use Rattle.rules.specs.Rehearsals.{pair, carryOn, outs, answers, nullMessagesCounted}
+use Rattle.rules.specs.Slips.{Reached, SlipsNoticed, stateAfter, after}
+
+pub reached-by-calls : Reached
+unfolding all-rules pair stateAfter after
+reached-by-calls = record { in-hand-reached = refl; poisoned-reached = refl; last-reached = refl; two-reached = refl; no-budget-reached = refl }
+
+pub slips-noticed : SlipsNoticed
+unfolding all-rules pair carryOn outs answers nullMessagesCounted
+slips-noticed = record {
+  part-of-a-round = λ c. refl;
+  spent-without-refresh = refl;
+  spent-in-step = λ c. refl;
+  poisoned-first = λ c. refl;
+  foreign-first = λ c. refl;
+  malformed-kept = λ c. refl;
+  emission-before-failure = λ c. refl;
+  straggler = λ c. refl;
+  no-straggler = refl;
+  last-sequence-number = λ c. refl;
+  three-taken = refl;
+  bounds-alone = refl;
+  bounds-alone-counted = refl;
+  counters-stop = refl;
+  short-list-first = refl;
+}

@@ -1,0 +1,212 @@
+//! Our program on states given whole (docs/CALLS.md), for what no list from build reaches: private fields
+//! set by hand in the original too, and states that 11 refuses, which the original cannot have.
+use crate::lists;
+use crate::program::{first_other, printed, shown, BATCH};
+use crate::store;
+use crate::tally::Tally;
+use generate::{Dice, CLAUSES};
+use model::{Answer, Call, Counters, Host, Message, Payload, Rules, State, Variant};
+use oracle::Origin;
+use std::path::Path;
+
+/// One in so many states is foreign.
+const FOREIGN: u64 = 4;
+
+/// A state with its counters, the calls on it, and the line that each is to have.
+struct Given {
+    state: State,
+    counters: Counters,
+    calls: Vec<Call>,
+    lines: Vec<String>,
+    answers: Vec<(Answer, Origin)>,
+}
+
+/// As much of a state as the program's arrays hold: no more is printed.
+fn held(s: &State) -> State {
+    let mut held = s.clone();
+    held.edges.truncate(512);
+    held.pending.truncate(512);
+    held.batch.truncate(64);
+    held.horizons.resize(s.n.min(64) as usize, 0);
+    held
+}
+
+/// A line by a program that follows these rules.
+fn line_by(host: &mut Host, call: &Call) -> (Answer, String) {
+    let answer = host.call(call);
+    let line = words::line(&answer, &host.counters, &held(&host.state));
+    (answer, line)
+}
+
+fn host(rules: Rules, state: &State, counters: &Counters) -> Host {
+    Host {
+        rules,
+        state: state.clone(),
+        counters: *counters,
+        history: vec![],
+        handled: vec![],
+    }
+}
+
+/// One of each call.
+fn each_call() -> Vec<Call> {
+    let message = Message {
+        source: 0,
+        destination: 0,
+        tick: 5,
+        payload: Payload::of(&[]),
+    };
+    vec![
+        Call::AddInitial(message),
+        Call::Begin {
+            horizon: 9,
+            budget: 3,
+        },
+        Call::Step,
+        Call::HandBack {
+            mask: 0,
+            emissions: vec![],
+        },
+        Call::ReadGvt,
+        Call::ReadCounters,
+        Call::ReadPending,
+        Call::ReadEarliest,
+    ]
+}
+
+/// A state that 11 refuses by this clause. The original has no such states: document 01 alone answers.
+fn foreign(dice: &mut Dice, clause: u64) -> Option<Given> {
+    let (state, counters) = generate::foreign(dice, clause)?;
+    assert!(
+        Rules::RIGHT.foreign(&state),
+        "clause {clause} is not broken"
+    );
+    let mut host = host(Rules::RIGHT, &state, &counters);
+    let mut lines = vec![words::given_line(&counters, &held(&state))];
+    let mut answers = vec![];
+    let calls = each_call();
+    for call in &calls {
+        let (answer, line) = line_by(&mut host, call);
+        lines.push(line);
+        answers.push((answer, Origin::Rules));
+    }
+    Some(Given {
+        state,
+        counters,
+        calls,
+        lines,
+        answers,
+    })
+}
+
+/// A state whose private fields are set by hand in the original, which answers the calls.
+fn set_by_hand(dice: &mut Dice) -> Option<Given> {
+    let mut list = generate::list(dice);
+    list.odd.as_ref()?;
+    list.calls.retain(|call| !matches!(call, Call::Plan { .. }));
+    let observed = lists::observe(&list);
+    let built = observed.built.as_ref().ok()?;
+    let (mut lines, _) = store::lines(&observed);
+    lines[0] = words::given_line(&built.counters, &built.state);
+    let answers = observed.calls.iter();
+    Some(Given {
+        state: built.state.clone(),
+        counters: built.counters,
+        answers: answers.map(|s| (s.answer.clone(), s.origin)).collect(),
+        calls: list.calls,
+        lines,
+    })
+}
+
+/// The state with this number.
+fn given(seed: u64, number: u64) -> Given {
+    let mut dice = Dice::new(seed.wrapping_mul(1 << 32) ^ number ^ (1 << 63));
+    loop {
+        let made = match number % FOREIGN {
+            0 => foreign(&mut dice, number / FOREIGN),
+            _ => set_by_hand(&mut dice),
+        };
+        if let Some(made) = made {
+            return made;
+        }
+    }
+}
+
+fn all_lines(all: &[Given]) -> impl Iterator<Item = &str> {
+    all.iter().flat_map(|g| &g.lines).map(String::as_str)
+}
+
+/// What is told of a difference in the file with this number.
+fn told(number: u64, all: &[Given], text: &str) -> Option<String> {
+    let (at, line) = first_other(all_lines(all), text)?;
+    let right = all_lines(all).nth(at).unwrap_or("no more lines");
+    Some(format!(
+        "DIFFERENCE in states, file {number}, line {at}\n  expected:    {}\n  our program: {}",
+        shown(right),
+        shown(&line)
+    ))
+}
+
+/// Compares `count` states, adds to the tally, and prints what was compared. Whether there was no
+/// difference.
+pub fn compare(program: &Path, seed: u64, count: u64, tally: &mut Tally) -> bool {
+    let mut differences = vec![];
+    let (mut states, mut by_rust, mut by_rules) = (0, 0, 0);
+    for number in 0..count.div_ceil(BATCH) {
+        let numbers = number * BATCH..count.min((number + 1) * BATCH);
+        let all: Vec<Given> = numbers.map(|number| given(seed, number)).collect();
+        let words = all.iter().enumerate().flat_map(|(at, g)| {
+            words::encode_given(&g.state, &g.counters, &g.calls, (at as u32) << 8)
+        });
+        let bytes = words::bytes(&words.collect::<Vec<_>>());
+        match printed(program, &bytes) {
+            Ok(text) => differences.extend(told(number, &all, &text)),
+            Err(cause) => differences.push(format!("{} does not run: {cause}", program.display())),
+        }
+        for (answer, origin) in all.iter().flat_map(|g| &g.answers) {
+            tally.answer(answer, *origin);
+            by_rust += u64::from(*origin == Origin::Rust);
+            by_rules += u64::from(*origin == Origin::Rules);
+        }
+        states += all.len();
+    }
+    differences.iter().for_each(|told| println!("{told}"));
+    println!("states: our program, seed {seed}: {states} states given whole, {} calls on them, {by_rust} answered by the Rust, {by_rules} by document 01 alone; each of {CLAUSES} ways to be foreign", by_rust + by_rules);
+    println!("states: {} differences", differences.len());
+    differences.is_empty() && states > 0
+}
+
+/// The text of a program that follows other rules.
+fn text_of(rules: Rules, all: &[Given]) -> String {
+    let mut text = String::new();
+    for g in all {
+        let mut host = host(rules, &g.state, &g.counters);
+        text += &words::given_line(&g.counters, &held(&g.state));
+        text.extend(g.calls.iter().map(|call| line_by(&mut host, call).1));
+    }
+    text
+}
+
+/// Whether each of these wrong programs, which lists from build do not show, is noticed here, and the
+/// right one is not.
+pub fn slips(seed: u64, unseen: &[Variant]) -> bool {
+    let all: Vec<Given> = (0..16 * BATCH).map(|number| given(seed, number)).collect();
+    let noticed = |rules| first_other(all_lines(&all), &text_of(rules, &all)).is_some();
+    let mut missed = 0;
+    for variant in unseen {
+        if !noticed(Rules::of(*variant)) {
+            println!("states: slips: NOT NOTICED: {}", variant.words());
+            missed += 1;
+        }
+    }
+    if noticed(Rules::RIGHT) {
+        println!("states: slips: the right text is refused");
+        missed += 1;
+    }
+    println!(
+        "states: slips: {} wrong programs on {} states, {missed} not noticed",
+        unseen.len(),
+        all.len()
+    );
+    missed == 0
+}

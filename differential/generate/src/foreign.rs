@@ -1,0 +1,137 @@
+//! States that 11 refuses, each by one clause of its sentence.
+use crate::dice::Dice;
+use crate::lists::stored_list;
+use model::{Counters, Edge, Event, Host, Message, Payload, Rules, State, Stored, TOP};
+
+/// How many clauses there are below.
+pub const CLAUSES: u64 = 21;
+
+fn event(s: &State, destination: u32) -> Event {
+    let message = Message {
+        source: destination,
+        destination,
+        tick: 7,
+        payload: Payload::of(&[1, 2]),
+    };
+    message.numbered(s.next.saturating_sub(1))
+}
+
+/// One more event is pending, behind the others.
+fn push_pending(s: &mut State) {
+    let last = s.n.clamp(1, 64) as u32 - 1;
+    let mut more = event(s, last);
+    more.tick = TOP;
+    more.sequence = s.next;
+    s.next += 1;
+    s.pending.push(more);
+}
+
+/// An open run, and an event of process 0 in hand.
+fn hold_batch(s: &mut State) {
+    s.running = true;
+    s.stored = Some(Stored {
+        horizon: 9,
+        budget: 9,
+    });
+    s.batch = vec![event(s, 0)];
+}
+
+fn edge(source: u32, destination: u32) -> Edge {
+    Edge {
+        source,
+        destination,
+        bound: 3,
+    }
+}
+
+/// Breaks one clause. The limits of counts and lengths, and ids, have several.
+fn break_clause(dice: &mut Dice, clause: u64, s: &mut State) {
+    let n = s.n as u32;
+    let strange = n + dice.below(2) as u32;
+    match clause {
+        0 => s.n = 0,
+        1 => s.n = dice.pick(&[65, 66, u64::MAX]),
+        2 => s.lookahead = 0,
+        3 => s.edges = vec![edge(0, 1); 513],
+        4 => {
+            while s.pending.len() < 513 {
+                push_pending(s);
+            }
+        }
+        5 => {
+            hold_batch(s);
+            s.batch = (0..65).map(|p| event(s, p)).collect();
+        }
+        6 => {
+            push_pending(s);
+            let last = s.pending.len() - 1;
+            s.pending[last].payload = Payload::new(17, [3; 16]);
+        }
+        7 => {
+            hold_batch(s);
+            s.batch[0].payload = Payload::new(u64::MAX, [3; 16]);
+        }
+        8 => s.edges.push(edge(strange, 0)),
+        9 => s.edges.push(edge(0, strange)),
+        10 => {
+            push_pending(s);
+            let last = s.pending.len() - 1;
+            s.pending[last].source = strange;
+        }
+        11 => {
+            push_pending(s);
+            let last = s.pending.len() - 1;
+            s.pending[last].destination = strange;
+        }
+        12 => {
+            hold_batch(s);
+            s.batch[0].source = strange;
+        }
+        13 => {
+            hold_batch(s);
+            s.batch[0].destination = strange;
+        }
+        14 => s.edges.extend([edge(0, n - 1), edge(0, n - 1)]),
+        15 => s.edges.push(edge(0, 0)),
+        16 => {
+            push_pending(s);
+            let last = s.pending[s.pending.len() - 1];
+            s.pending.push(last);
+        }
+        17 => {
+            push_pending(s);
+            s.next -= 1;
+        }
+        18 => {
+            let budget = dice.below(3);
+            s.stored = Some(Stored {
+                horizon: TOP,
+                budget,
+            });
+        }
+        19 => {
+            s.running = true;
+            s.stored = None;
+        }
+        _ => {
+            hold_batch(s);
+            s.running = dice.one_in(2);
+            if s.running {
+                s.batch.push(s.batch[0]);
+            }
+        }
+    }
+    s.horizons.resize(s.n.min(64) as usize, 0);
+}
+
+/// A state that a list of calls left, with one clause broken; and its counters.
+pub fn foreign(dice: &mut Dice, clause: u64) -> Option<(State, Counters)> {
+    let number = 6 + dice.below(1000);
+    let list = stored_list(dice, number);
+    let mut host = Host::build(Rules::RIGHT, &list.setup).ok()?;
+    for call in &list.calls {
+        host.call(call);
+    }
+    break_clause(dice, clause % CLAUSES, &mut host.state);
+    Some((host.state, host.counters))
+}
