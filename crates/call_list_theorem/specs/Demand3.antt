@@ -19,9 +19,9 @@ pub record Demand3OfProgram (a : Setup) (r : BuildResult) (ls : List Link) : Typ
   pub same-as-rules : map outOf ls ≡ execute (built a) zeros (callsOf ls)
   -- Every claim, each number counted on what the program answered and left; that no call is refused with 11 is among them.
   pub demanded : Demanded a (history r ls)
-  -- "The counters read after the list equal these counts, or 2^64 - 1 where one is larger": a part of `demanded`, spelt with the program's last state. Whole says it of the reading functions.
+  -- The four reads after the list, a part of `demanded`, spelt with the program's last state; Theorem.antt says it of the reading functions. "The counters read after the list equal these counts, or 2^64 - 1 where one is larger."
   pub counters : readCounters (viewOf (stateLeft (r .state) ls)) (countersOf (countersLeft (r .counters) ls)) .answer ≡ Read (counts (history r ls .entries))
+  -- "Pending is what its read answers then."
+  pub pending : readPending (viewOf (stateLeft (r .state) ls)) (countersOf (countersLeft (r .counters) ls)) .answer ≡ Read (Pending (length (viewOf (stateLeft (r .state) ls) .pending)))
   pub gvt : readGvt (viewOf (stateLeft (r .state) ls)) (countersOf (countersLeft (r .counters) ls)) .answer ≡ Read (Gvt (viewOf (stateLeft (r .state) ls) .gvt))
   pub earliest : readEarliest (viewOf (stateLeft (r .state) ls)) (countersOf (countersLeft (r .counters) ls)) .answer ≡ Read (Earliest (least maxTick (map (λ (e : Event). e .tick) (viewOf (stateLeft (r .state) ls) .pending))))
-  -- "Pending is what its read answers then": likewise.
-  pub pending : readPending (viewOf (stateLeft (r .state) ls)) (countersOf (countersLeft (r .counters) ls)) .answer ≡ Read (Pending (length (viewOf (stateLeft (r .state) ls) .pending)))

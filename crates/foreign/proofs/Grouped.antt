@@ -62,6 +62,6 @@ ruled h edges pending batch r e horizons =
     (e ∙ regrouped _ _ _ _ _ _ _ _ _ _ _ _ _ _ _ _ _ _)
 
 -- What the answer x of `is_foreign` tells of the state.
-pub judged : (s : Runtime) (x b : Bool) → IsForeign (s .head) (s .edges) (s .pending) (s .batch) x → x ≡ b → foreign (viewOf s) ≡ b
+pub foreign-is : (s : Runtime) (x b : Bool) → IsForeign (s .head) (s .edges) (s .pending) (s .batch) x → x ≡ b → foreign (viewOf s) ≡ b
 unfolding IsForeign
-judged s x b i e = sym (i (s .horizons)) ∙ e
+foreign-is s x b i e = sym (i (s .horizons)) ∙ e

@@ -18,7 +18,7 @@ use Rattle.state.specs.declared.Counters.{Counters}
 use Rattle.state.specs.declared.Answer.the-variants as P
 use Rattle.state.specs.ValidArrays.{ValidArrays}
 use Rattle.foreign.specs.Tests.{IsForeign}
-use Rattle.foreign.proofs.Grouped.{judged}
+use Rattle.foreign.proofs.Grouped.{foreign-is}
 use Rattle.runtime.specs.Executes.{Executes}
 use Rattle.runtime.proofs.Executing.{carries-foreign, carries-back}
 use Rattle.host_hand_back.specs.Passes.{tablesOf, Sizes, routesIn, placesIn}
@@ -46,14 +46,14 @@ module _ (h : Header) (E Q Z B : List ℕ) (mask : ℕ) (x : Bool) (i : IsForeig
   opens-foreign t b a D e = rw e (record {
     same-head = refl;
     begun = record { started = λ g. not-both g refl; checkable = λ g. not-both g refl };
-    refused = λ _ xs c. carries-foreign s c (judged s x true i t) (HandBack mask xs);
+    refused = λ _ xs c. carries-foreign s c (foreign-is s x true i t) (HandBack mask xs);
     lent = λ g. not-both g refl;
     tabled = λ g. not-both g refl;
   })
 
   module _ (f : x ≡ false) (e : length E ≡ 2048) (q : length Q ≡ 4096) (z : length Z ≡ 128) (b : length B ≡ 512) where
     lent : ValidArrays h E Q Z B
-    lent = record { edge-words = e; pending-words = q; horizon-words = z; batch-words = b; passes = judged s x false i f }
+    lent = record { edge-words = e; pending-words = q; horizon-words = z; batch-words = b; passes = foreign-is s x false i f }
 
     pub ready : Ready h E B
     ready = Review.ready h E Q Z B lent

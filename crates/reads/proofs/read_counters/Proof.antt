@@ -1,5 +1,5 @@
 use borrow.Author.Needs.{needs}
-use Rattle.foreign.proofs.Grouped.{judged}
+use Rattle.foreign.proofs.Grouped.{foreign-is}
 use Rattle.reads.proofs.Reading.{counters-foreign, counters-read}
 use Rattle.reads.proofs.read_counters.Statement.{statement}
 use Rattle.reads.proofs.read_counters.Tie as tie
@@ -8,10 +8,10 @@ is-foreign-requires : tie.Need-is-foreign-requires
 is-foreign-requires c κs = search needs
 
 returns : tie.Need-returns
-returns c = counters-foreign _ (search judged depth 1) _
+returns c = counters-foreign _ (search foreign-is depth 1) _
 
 returns-2 : tie.Need-returns-2
-returns-2 c = counters-read _ (search judged depth 1) _
+returns-2 c = counters-read _ (search foreign-is depth 1) _
 
 pub read-counters-spec : {M : Type 1} → statement M
 read-counters-spec = tie.close (tie.spec is-foreign-requires returns returns-2)

@@ -1,5 +1,5 @@
 use borrow.Author.Needs.{needs}
-use Rattle.foreign.proofs.Grouped.{judged}
+use Rattle.foreign.proofs.Grouped.{foreign-is}
 use Rattle.runtime.proofs.Executing.{carries-begin}
 use Rattle.runtime.proofs.begin.Statement.{statement}
 use Rattle.runtime.proofs.begin.Tie as tie
@@ -8,7 +8,7 @@ is-foreign-requires : tie.Need-is-foreign-requires
 is-foreign-requires c κs = search needs
 
 refuse-foreign-requires : tie.Need-refuse-foreign-requires
-refuse-foreign-requires c κs = judged _ _ _ (c .before .is-foreign .ensures) (c .if1 .taken)
+refuse-foreign-requires c κs = foreign-is _ _ _ (c .before .is-foreign .ensures) (c .if1 .taken)
 
 returns : tie.Need-returns
 returns c = c .refuse-foreign .ensures _
@@ -20,7 +20,7 @@ returns-2 : tie.Need-returns-2
 returns-2 c =
     let begun = c .before in
     let going = begun .before in
-    carries-begin _ (judged _ _ _ (going .before .is-foreign .ensures) (going .if1 .left)) _ _ _ _ (begun .begin .ensures)
+    carries-begin _ (foreign-is _ _ _ (going .before .is-foreign .ensures) (going .if1 .left)) _ _ _ _ (begun .begin .ensures)
 
 pub begin-spec : {M : Type 1} → statement M
 begin-spec =

@@ -1,5 +1,5 @@
 use borrow.Author.Needs.{needs}
-use Rattle.foreign.proofs.Grouped.{judged}
+use Rattle.foreign.proofs.Grouped.{foreign-is}
 use Rattle.runtime.proofs.Executing.{can-lend, carries-back}
 use Rattle.runtime.proofs.hand_back.Statement.{statement}
 use Rattle.runtime.proofs.hand_back.Tie as tie
@@ -8,7 +8,7 @@ is-foreign-requires : tie.Need-is-foreign-requires
 is-foreign-requires c κs = search needs
 
 refuse-foreign-requires : tie.Need-refuse-foreign-requires
-refuse-foreign-requires c κs = judged _ _ _ (c .before .is-foreign .ensures) (c .if1 .taken)
+refuse-foreign-requires c κs = foreign-is _ _ _ (c .before .is-foreign .ensures) (c .if1 .taken)
 
 returns : tie.Need-returns
 returns c = c .refuse-foreign .ensures _
@@ -23,7 +23,7 @@ slice-aggregate-hand-back-3 : tie.Need-slice-aggregate-hand-back-3
 slice-aggregate-hand-back-3 c = search needs
 
 hand-back-requires : tie.Need-hand-back-requires
-hand-back-requires c κs = search (can-lend, judged, needs)
+hand-back-requires c κs = search (can-lend, foreign-is, needs)
 
 returns-2 : tie.Need-returns-2
 returns-2 c = carries-back _ _ _ _ _ _ _ _ (c .before .before .before .before .before .hand-back .ensures)

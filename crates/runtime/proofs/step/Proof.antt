@@ -1,5 +1,5 @@
 use borrow.Author.Needs.{needs}
-use Rattle.foreign.proofs.Grouped.{judged}
+use Rattle.foreign.proofs.Grouped.{foreign-is}
 use Rattle.runtime.proofs.Executing.{can-lend, carries-step}
 use Rattle.runtime.proofs.step.Statement.{statement}
 use Rattle.runtime.proofs.step.Tie as tie
@@ -8,7 +8,7 @@ is-foreign-requires : tie.Need-is-foreign-requires
 is-foreign-requires c κs = search needs
 
 refuse-foreign-requires : tie.Need-refuse-foreign-requires
-refuse-foreign-requires c κs = judged _ _ _ (c .before .is-foreign .ensures) (c .if1 .taken)
+refuse-foreign-requires c κs = foreign-is _ _ _ (c .before .is-foreign .ensures) (c .if1 .taken)
 
 returns : tie.Need-returns
 returns c = c .refuse-foreign .ensures _
@@ -26,7 +26,7 @@ slice-aggregate-step-4 : tie.Need-slice-aggregate-step-4
 slice-aggregate-step-4 c = search needs
 
 step-requires : tie.Need-step-requires
-step-requires c κs = search (can-lend, judged, needs)
+step-requires c κs = search (can-lend, foreign-is, needs)
 
 returns-2 : tie.Need-returns-2
 returns-2 c = carries-step _ _ _ _ _ _ _ (c .before .before .before .before .before .before .step .ensures)
