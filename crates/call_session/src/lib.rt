@@ -1,11 +1,10 @@
 // A session of docs/CALLS.md: the lists of calls from standard input are carried out through the
-// public calls, and the answers printed. What cannot be decoded ends the input.
+// public calls of a face, and the answers printed. What cannot be decoded ends the input.
 use build::BuildAnswer;
 use call_input::BROKEN;
 use call_input::CALL_WORDS;
 use call_input::PLAN;
 use libc::STDIN_FILENO;
-use reads::ReadAnswer;
 use runtime::BuildResult;
 use runtime::CallResult;
 use state::Answer;
@@ -29,14 +28,6 @@ const ROW_WORDS: usize = 8192;
 // The process count that stands for a state given whole, in place of a build.
 const STATE: u64 = 18446744073709551614;
 
-const READ_GVT: u64 = 4;
-
-const READ_COUNTERS: u64 = 5;
-
-const READ_PENDING: u64 = 6;
-
-const READ_EARLIEST: u64 = 7;
-
 // What is left between two calls.
 struct Session {
     counters: Counters,
@@ -47,15 +38,6 @@ struct Session {
 struct Step {
     decoded: bool,
     left: Session,
-}
-
-fn reading(state: Runtime, counters: Counters, tag: u64) -> ReadAnswer {
-    match tag {
-        READ_GVT => reads::read_gvt(state, counters),
-        READ_COUNTERS => reads::read_counters(state, counters),
-        READ_PENDING => reads::read_pending(state, counters),
-        _ => reads::read_earliest(state, counters),
-    }
 }
 
 // The line of a call is printed.
@@ -71,21 +53,25 @@ fn print_result(called: CallResult) -> Session {
 }
 
 // The call that the words are.
-fn execute(s: Session, words: &[u64]) -> Session {
+fn execute(face: u64, s: Session, words: &[u64]) -> Session {
     let state = s.state;
     let counters = s.counters;
     if 0 < call_words::call_size(words, 0) {
-        return print_result(call_runtime::execute(state, counters, words, 0));
+        return print_result(call_faces::execute(face, state, counters, words, 0));
     }
     if words.len() == 1 {
         let tag = words[0];
-        answer_text::print_read(reading(state, counters, tag), state, counters);
+        answer_text::print_read(
+            call_faces::read(face, state, counters, tag),
+            state,
+            counters,
+        );
     }
     s
 }
 
 // The next call, read and carried out; a plan is on no state. Whether it could be decoded.
-fn execute_next(s: Session, words: &mut [u64]) -> Step
+fn execute_next(face: u64, s: Session, words: &mut [u64]) -> Step
     requires { ⌜ length (now words) ≡ 32771 ⌝ }
 {
     let end = call_input::read_call(words);
@@ -103,12 +89,12 @@ fn execute_next(s: Session, words: &mut [u64]) -> Step
     }
     Step {
         decoded: true,
-        left: execute(s, &words[..end]),
+        left: execute(face, s, &words[..end]),
     }
 }
 
 // A number of calls, and the calls; whether all could be decoded.
-fn execute_calls(state: Runtime, counters: Counters) -> bool {
+fn execute_calls(face: u64, state: Runtime, counters: Counters) -> bool {
     let Next::Word(count) = text_input::read_word(STDIN_FILENO) else {
         return false;
     };
@@ -119,7 +105,7 @@ fn execute_calls(state: Runtime, counters: Counters) -> bool {
     let mut words = [0u64; CALL_WORDS];
     let mut left = count;
     while 0 < left {
-        let step = execute_next(s, &mut words);
+        let step = execute_next(face, s, &mut words);
         if !step.decoded {
             return false;
         }
@@ -142,13 +128,13 @@ fn no_counters() -> Counters {
 }
 
 // Carries out the calls. Those of a refused build are passed over.
-fn execute_on(built: BuildResult) -> bool {
+fn execute_on(face: u64, built: BuildResult) -> bool {
     let answer = built.answer;
     if let BuildAnswer::Accepted = answer {
         let state = built.state;
         let counters = built.counters;
         answer_text::print_line(Answer::Accepted, state, counters);
-        return execute_calls(state, counters);
+        return execute_calls(face, state, counters);
     }
     answer_text::print_refused_build(answer);
     skip_calls::skip_calls()
@@ -204,6 +190,7 @@ fn read_rows(sources: &mut [u32], counts: &mut [u64]) -> usize {
 
 // Reads the destinations, builds, and carries the list out.
 fn execute_edges<'a>(
+    face: u64,
     n: u64,
     lookahead: SimDuration,
     ids: &'a [u32],
@@ -216,32 +203,36 @@ fn execute_edges<'a>(
         return false;
     }
     let lent = &destinations[..edges];
-    execute_on(runtime::build(n, lookahead, ids, sources, counts, lent, no_counters()))
+    let none = no_counters();
+    execute_on(
+        face,
+        call_faces::build(face, n, lookahead, ids, sources, counts, lent, none),
+    )
 }
 
 // Reads the rows, and carries the list out.
-fn execute_rows<'a>(n: u64, lookahead: SimDuration, ids: &'a [u32]) -> bool {
+fn execute_rows<'a>(face: u64, n: u64, lookahead: SimDuration, ids: &'a [u32]) -> bool {
     let mut sources = [0u32; PLACES];
     let mut counts = [0u64; PLACES];
     let rows = read_rows(&mut sources, &mut counts);
     if PLACES < rows {
         return false;
     }
-    execute_edges(n, lookahead, ids, &sources[..rows], &counts[..rows])
+    execute_edges(face, n, lookahead, ids, &sources[..rows], &counts[..rows])
 }
 
 // Reads the ids, and carries the list out.
-fn execute_ids(n: u64, lookahead: SimDuration) -> bool {
+fn execute_ids(face: u64, n: u64, lookahead: SimDuration) -> bool {
     let mut ids = [0u32; PLACES];
     let count = read_ids(&mut ids);
     if PLACES < count {
         return false;
     }
-    execute_rows(n, lookahead, &ids[..count])
+    execute_rows(face, n, lookahead, &ids[..count])
 }
 
 // A list on a state given whole.
-fn execute_given(lookahead: SimDuration) -> bool {
+fn execute_given(face: u64, lookahead: SimDuration) -> bool {
     let given = call_input::read_state(lookahead);
     if !given.whole {
         return false;
@@ -249,26 +240,27 @@ fn execute_given(lookahead: SimDuration) -> bool {
     let state = given.state;
     let counters = given.counters;
     answer_text::print_given(state, counters);
-    execute_calls(state, counters)
+    execute_calls(face, state, counters)
 }
 
 // A list of calls; whether all of it could be decoded.
-fn execute_list() -> bool {
+fn execute_list(face: u64) -> bool {
     let mut head = [0u64; 3];
     if text_input::read_words(STDIN_FILENO, &mut head) < 3 {
         return false;
     }
     let lookahead = SimDuration::from_ticks(head[1], head[2]);
     if head[0] == STATE {
-        return execute_given(lookahead);
+        return execute_given(face, lookahead);
     }
-    execute_ids(head[0], lookahead)
+    execute_ids(face, head[0], lookahead)
 }
 
-// Nothing says that an input ends, so the lists are counted down from a number that none has.
-pub fn run() {
+// All lists, by the calls of that face (`call_faces`). Nothing says that an input ends, so the lists are
+// counted down from a number that none has.
+pub fn run(face: u64) {
     let mut left = u64::MAX;
-    while 0 < left && execute_list() {
+    while 0 < left && execute_list(face) {
         left -= 1;
     }
 }

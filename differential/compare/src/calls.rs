@@ -1,7 +1,7 @@
 //! Our program `calls_main` (crates/calls_main) against the original: the lines that it prints for the
 //! builds and the calls of lists, each with everything that document 01 compares after a call.
 use crate::lists::{self, Observed};
-use crate::program::{file, first_other, printed, shown, BATCH};
+use crate::program::{file, first_other, name, printed, shown, BATCH};
 use crate::shrink::shrink;
 use crate::states;
 use crate::store;
@@ -143,8 +143,9 @@ fn rehearsed(program: &Path) -> bool {
     let right = written && found.is_none();
     found.iter().for_each(|told| println!("{told}"));
     println!(
-        "calls: {} rehearsals of document 01 on our program: {}",
+        "calls: {} rehearsals of document 01 on our program {}: {}",
         all.len(),
+        name(program),
         if right {
             "as the Rust answers and as written"
         } else {
@@ -167,7 +168,8 @@ pub fn compare(program: &Path, seed: u64, count: u64) -> bool {
     differences.iter().for_each(|told| println!("{told}"));
     let (lists, by_rust, by_rules) = (tally.lists, tally.by_rust, tally.by_rules);
     let calls = by_rust + by_rules;
-    println!("calls: our program, seed {seed}: {calls} builds and calls in {lists} lists in {files} files, {by_rust} answered by the Rust, {by_rules} by document 01 alone");
+    let name = name(program);
+    println!("calls: our program {name}, seed {seed}: {calls} builds and calls in {lists} lists in {files} files, {by_rust} answered by the Rust, {by_rules} by document 01 alone");
     println!("calls: {} differences", differences.len());
     let given = states::compare(program, seed, count, &mut tally);
     let seen = tally.refusals[1..].iter().filter(|seen| **seen > 0).count();

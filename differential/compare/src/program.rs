@@ -43,6 +43,12 @@ pub fn expected(lists: &[List]) -> Vec<Expected> {
     calls.filter_map(line).collect()
 }
 
+/// The program's name, without its folder.
+pub fn name(program: &Path) -> String {
+    let name = program.file_name().unwrap_or_default();
+    name.to_string_lossy().to_string()
+}
+
 /// What the program prints when it is given these bytes.
 pub fn printed(program: &Path, input: &[u8]) -> io::Result<String> {
     let mut child = Command::new(program)

@@ -1,5 +1,5 @@
 //! Many scenarios of whole runs: files of lists for our programs, and what was compared.
-use crate::program::{printed, shown as cut, BATCH};
+use crate::program::{name, printed, shown as cut, BATCH};
 use crate::runs::{check, numbered, observe, planned, Planned};
 use crate::shrink::shrink;
 use crate::tally::Tally;
@@ -177,8 +177,7 @@ pub fn compare(programs: &[PathBuf], seed: u64, count: u64) -> bool {
         differences.extend(found);
     }
     differences.iter().for_each(|told| println!("{told}"));
-    let name = |program: &PathBuf| program.file_name().map(|n| n.to_string_lossy().to_string());
-    let names: Vec<String> = programs.iter().filter_map(name).collect();
+    let names: Vec<String> = programs.iter().map(|program| name(program)).collect();
     let names = names.join(", ");
     println!("runs: the Rust's own run_until_with_budget beside {names}");
     let met = print(&counted, seed);

@@ -1,7 +1,7 @@
 //! Our program on states given whole (docs/CALLS.md), for what no list from build reaches: private fields
 //! set by hand in the original too, and states that 11 refuses, which the original cannot have.
 use crate::lists;
-use crate::program::{first_other, printed, shown, BATCH};
+use crate::program::{first_other, name, printed, shown, BATCH};
 use crate::store;
 use crate::tally::Tally;
 use generate::{Dice, CLAUSES};
@@ -171,7 +171,8 @@ pub fn compare(program: &Path, seed: u64, count: u64, tally: &mut Tally) -> bool
         states += all.len();
     }
     differences.iter().for_each(|told| println!("{told}"));
-    println!("states: our program, seed {seed}: {states} states given whole, {} calls on them, {by_rust} answered by the Rust, {by_rules} by document 01 alone; each of {CLAUSES} ways to be foreign", by_rust + by_rules);
+    let name = name(program);
+    println!("states: our program {name}, seed {seed}: {states} states given whole, {} calls on them, {by_rust} answered by the Rust, {by_rules} by document 01 alone; each of {CLAUSES} ways to be foreign", by_rust + by_rules);
     println!("states: {} differences", differences.len());
     differences.is_empty() && states > 0
 }

@@ -6,10 +6,10 @@ use Rattle.call_session.proofs.execute_calls.Statement.{statement}
 use Rattle.call_session.proofs.execute_calls.Tie as tie
 
 abbrev Inv-loop : tie.InvT-loop
-Inv-loop count s₀ words₀ left₀ s words left = length words ≡ 32771
+Inv-loop face count s₀ words₀ left₀ s words left = length words ≡ 32771
 
 abbrev μ-loop : tie.MeasureT-loop
-μ-loop count s₀ words₀ left₀ s words left = left
+μ-loop face count s₀ words₀ left₀ s words left = left
 
 read-word-requires : tie.Need-read-word-requires Inv-loop μ-loop
 read-word-requires c κs = search needs

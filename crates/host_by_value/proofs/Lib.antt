@@ -1,0 +1,4 @@
+pub mod Cell
+pub mod Front
+pub mod Lending
+pub mod Reading
