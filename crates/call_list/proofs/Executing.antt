@@ -1,5 +1,5 @@
 -- What each function that carries out a call gives, by what its core promises.
-use mathlib.Core.Path.{_≡_, sym, ap, subst, _∙_}
+use mathlib.Core.Path.{_≡_, ap, _∙_}
 use mathlib.Core.List.{List}
 use Prim.Native.Nat.{ℕ, _+_, _*_, _≤_, _<_}
 use native.Mathlib.Omega.{arith}
@@ -15,8 +15,6 @@ use Rattle.rules.specs.Initial.{addInitial}
 use Rattle.rules.specs.Begin as rules
 use Rattle.rules.specs.HandBack.{Emission, handBack}
 use Rattle.rules.specs.Calls.{Call, AddInitial, Begin, rule}
-use Rattle.rules.proofs.Shape.{Shaped, shaped, passes-11}
-use Rattle.rules.proofs.ShapeCalls.{Shapes, shape-kept}
 use Rattle.state.specs.declared.Header.{Header}
 use Rattle.state.specs.declared.Counters.{Counters}
 use Rattle.state.specs.declared.Message.{Message}
@@ -99,17 +97,3 @@ module _ (w : List ℕ) (at : ℕ) (some : 0 < size (decode w at)) where
     pub back-carried : (h : Header) (c : Counters) (E Q Z B : List ℕ) (reply : List Emission) (r : CoreResult) (Q′ Z′ B′ : List ℕ) → reply ≡ emissionsOf n (drop (at + 3) w) → HandsBack h c E Q Z B (getD w (at + 1) 0) reply r Q′ Z′ B′ → CarriesThis h c E Q Z B r E Q′ Z′ B′
     unfolding rule handBackAt
     back-carried h c E Q Z B reply r Q′ Z′ B′ e g = rw (back .is) (executes _ _ _ _ _ _ _ _ _ _ _ _ (g .gives ∙ ap (λ (xs : List Emission). handBack (view h E Q Z B) (countersOf c) (getD w (at + 1) 0) xs) e))
-
--- The state left may be lent again: every call keeps what 11 asks.
-pub left-lent : (k : Call) (h : Header) (c : Counters) (E Q Z B : List ℕ) (r : CoreResult) (E′ Q′ Z′ B′ : List ℕ) → ValidArrays h E Q Z B → length E′ ≡ length E → length Q′ ≡ length Q → length Z′ ≡ length Z → length B′ ≡ length B
-    → Executes k h c E Q Z B r E′ Q′ Z′ B′ → ValidArrays (r .head) E′ Q′ Z′ B′
-unfolding Shapes
-left-lent k h c E Q Z B r E′ Q′ Z′ B′ l e q z b g =
-    let s = shape-kept (view h E Q Z B) (countersOf c) k (shaped (view h E Q Z B) (l .passes)) in
-    record {
-      edge-words = e ∙ l .edge-words;
-      pending-words = q ∙ l .pending-words;
-      horizon-words = z ∙ l .horizon-words;
-      batch-words = b ∙ l .batch-words;
-      passes = passes-11 (view (r .head) E′ Q′ Z′ B′) (subst Shaped (sym (ap (λ (o : Out). o .after) (g .gives))) s);
-    }

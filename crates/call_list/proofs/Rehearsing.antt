@@ -17,6 +17,7 @@ use Rattle.rules.proofs.Built.{makes}
 use Rattle.rules.proofs.Demand.{demand-3}
 use Rattle.state.specs.declared.Header.{Header}
 use Rattle.state.specs.declared.Counters.{Counters}
+use Rattle.state.specs.View.{zeroCounters}
 use Rattle.state.specs.ValidArrays.{ValidArrays}
 use Rattle.build.specs.declared.BuildAnswer.{BuildAnswer}
 use Rattle.build.specs.declared.BuildAnswer.the-variants as P
@@ -28,7 +29,7 @@ use Rattle.build.proofs.Numbering.{refusals, refusing}
 use Rattle.build.proofs.Initializing.{writable}
 use Rattle.call_list.specs.declared.RunResult.{RunResult}
 use Rattle.call_list.specs.declared.RehearsalResult.{RehearsalResult}
-use Rattle.call_list.specs.Runs.{zeroCounters, RunsCalls}
+use Rattle.call_list.specs.Runs.{RunsCalls}
 use Rattle.call_list.specs.Rehearses.{CanStart, RehearsesAccepted, Rehearses}
 
 -- What was initialized may be lent.

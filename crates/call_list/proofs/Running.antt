@@ -12,13 +12,13 @@ use Rattle.rules.specs.History.{History, appendCall, runCalls}
 use Rattle.state.specs.declared.Header.{Header}
 use Rattle.state.specs.declared.Counters.{Counters}
 use Rattle.state.specs.declared.CoreResult.{CoreResult}
-use Rattle.state.specs.View.{view, countersOf}
+use Rattle.state.specs.View.{view, countersOf, zeroCounters}
 use Rattle.state.specs.ValidArrays.{ValidArrays}
+use Rattle.state.proofs.LeftLent.{left-lent}
 use Rattle.call_words.specs.Decode.{Decoded, Nothing, Decodes, decode, size, callOf, callThenRest, decodeFrom, decodeAll}
 use Rattle.call_words.proofs.Decoding.{sound}
 use Rattle.call_list.specs.Executes.{Executes}
-use Rattle.call_list.proofs.Executing.{left-lent}
-use Rattle.call_list.specs.Runs.{zeroCounters, RunsCalls}
+use Rattle.call_list.specs.Runs.{RunsCalls}
 
 -- The state and the counters that a list of calls leaves.
 pub record Left : Type 0 where
@@ -116,7 +116,7 @@ module _ (h₀ : Header) (E₀ Q₀ Z₀ B₀ w : List ℕ) where
         each-some = omega (arith, i .each-some);
         inside = behind;
         sized = y;
-        lent = left-lent (callOf (decode w at)) h c E Q Z B r E′ Q′ Z′ B′ (i .lent) e q z b g;
+        lent = left-lent (callOf (decode w at)) h c E Q Z B r E′ Q′ Z′ B′ _ (i .lent) e q z b (g .gives);
         same = i .same ∙ ap (left (view h E Q Z B) (countersOf c)) next ∙ ap (λ (o : Out). left (o .after) (o .counters) (ahead (calls + 1) (at + count))) (sym (g .gives));
         counted = let x : length (ahead calls at) ≡ suc (length (ahead (calls + 1) (at + count))) = ap length next in omega (arith, i .counted);
       }

@@ -12,13 +12,12 @@ use Rattle.rules.specs.Foreign.{foreign}
 use Rattle.rules.specs.History.{History, emptyHistory, runCalls}
 use Rattle.rules.specs.Demand.{Demanded}
 use Rattle.build_edges.specs.Written.{Writable}
-use Rattle.state.specs.View.{viewOf, countersOf}
+use Rattle.state.specs.View.{viewOf, countersOf, zeroCounters}
 use Rattle.build.specs.declared.BuildAnswer.{BuildAnswer}
 use Rattle.build.specs.Checks.{answerOf}
 use Rattle.build.specs.Initialized.{emptyRuntime}
 use Rattle.call_words.specs.Decode.{decodeAll}
 use Rattle.call_list.specs.declared.RehearsalResult.{RehearsalResult}
-use Rattle.call_list.specs.Runs.{zeroCounters}
 
 -- What an accepted build is known to be. The ids play no part in what it makes.
 pub record CanStart (n L : ℕ) (sources counts destinations : List ℕ) : Type 0 where

@@ -6,13 +6,10 @@ use lib.ListN.{length}
 use Rattle.rules.specs.History.{History, runCalls}
 use Rattle.state.specs.declared.Header.{Header}
 use Rattle.state.specs.declared.Counters.{Counters}
-use Rattle.state.specs.View.{view, countersOf}
+use Rattle.state.specs.View.{view, countersOf, zeroCounters}
 use Rattle.state.specs.ValidArrays.{ValidArrays}
 use Rattle.call_list.specs.declared.RunResult.{RunResult}
 use Rattle.call_words.specs.Decode.{decodeAll}
-
-abbrev pub zeroCounters : Counters
-zeroCounters = record { «processed_events» = 0; «emitted_events» = 0; «remote_events» = 0; rounds = 0; «null_messages» = 0; «worker_count» = 0 }
 
 pub record RunsCalls (h : Header) (edges pending horizons batch w : List ℕ) (r : RunResult) (edges′ pending′ horizons′ batch′ : List ℕ) : Type 0 where
   -- Of any history that came to the state given and has counted nothing, what is left is what it comes to with the decoded calls.

@@ -16,7 +16,7 @@ ghost use Rattle.call_list.specs.Executes.{CanAddOrBegin, AddsOrBegins, 
 ghost use mathlib.Core.Path.{_≡_};
 ghost use Rattle.types.specs.Value.{durationOf};
 ghost use Rattle.rules.specs.Build.{setup};
-ghost use Rattle.call_list.specs.Runs.{zeroCounters, RunsCalls};
+ghost use Rattle.call_list.specs.Runs.{RunsCalls};
 ghost use Rattle.call_list.specs.Rehearses.{CanStart, RehearsesAccepted, Rehearses};
 
 // Add initial or begin, which count nothing.
@@ -100,20 +100,6 @@ pub struct RehearsalResult {
     pub calls: usize,
 }
 
-// Nothing is counted yet.
-fn zero_counters() -> Counters
-    ensures { λ r. ⌜ r ≡ zeroCounters ⌝ }
-{
-    Counters {
-        processed_events: 0,
-        emitted_events: 0,
-        remote_events: 0,
-        rounds: 0,
-        null_messages: 0,
-        worker_count: 0,
-    }
-}
-
 // Carries out all calls of the words. What cannot be decoded, or the end, ends them.
 fn run_calls(
     mut head: Header,
@@ -126,7 +112,7 @@ fn run_calls(
     requires { ⌜ ValidArrays head (now edges) (now pending) (now horizons) (now batch) ⌝ }
     ensures { λ r. ⌜ RunsCalls head (now (edges .entry)) (now (pending .entry)) (now (horizons .entry)) (now (batch .entry)) (now (words .entry)) r (now (edges .exit)) (now (pending .exit)) (now (horizons .exit)) (now (batch .exit)) ⌝ }
 {
-    let mut counters = zero_counters();
+    let mut counters = state::zero_counters();
     let mut at: usize = 0;
     let mut calls: usize = 0;
     let mut count = call_words::call_size(words, 0);
@@ -211,7 +197,7 @@ pub fn rehearse<'a>(
             batch: [0; 512],
             head: build::empty_header(),
         },
-        counters: zero_counters(),
+        counters: state::zero_counters(),
         calls: 0,
     }
 }

@@ -3,3 +3,4 @@ pub mod MalformedReply
 pub mod Reading
 pub mod Passing
 pub mod Samples
+pub mod Cut

@@ -3,3 +3,4 @@ pub mod Moves
 pub mod Deciding
 pub mod Queueing
 pub mod Numbering
+pub mod LeftLent

@@ -47,6 +47,10 @@ countersOf c = record { handled = c .«processed_events»; emitted = c .«emitte
 abbrev pub messageOf : Message → R.Message
 messageOf m = record { source = lpIdOf (m .source); destination = lpIdOf (m .destination); tick = ticksOf (m .tick); payload = payloadOf (m .len) (m .«payload_hi») (m .«payload_lo») }
 
+-- Nothing is counted yet.
+abbrev pub zeroCounters : Counters
+zeroCounters = record { «processed_events» = 0; «emitted_events» = 0; «remote_events» = 0; rounds = 0; «null_messages» = 0; «worker_count» = 0 }
+
 -- The rules' answer that each answer stands for, with the batch in hand after it.
 abbrev pub answerOf : List Event → Answer → A.Answer
 answerOf es P.Accepted = A.Accepted

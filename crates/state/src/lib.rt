@@ -9,6 +9,7 @@ ghost use mathlib.Core.Path.{_≡_};
 ghost use Prim.Native.Nat.{_+_};
 ghost use lib.Dec.{ltb};
 ghost use Rattle.rules.specs.State.{saturatingAdd, maxCount, maxPending};
+ghost use Rattle.state.specs.View.{zeroCounters};
 
 // The small fields of a runtime. `edges`, `pending` and `batch` are how many there are; `next` is the
 // next sequence number; `stored` says whether `horizon` and `budget` are set; `initial`, that initial
@@ -105,6 +106,20 @@ pub struct CoreResult {
     pub answer: Answer,
     pub head: Header,
     pub counters: Counters,
+}
+
+// Nothing is counted yet.
+pub fn zero_counters() -> Counters
+    ensures { λ r. ⌜ r ≡ zeroCounters ⌝ }
+{
+    Counters {
+        processed_events: 0,
+        emitted_events: 0,
+        remote_events: 0,
+        rounds: 0,
+        null_messages: 0,
+        worker_count: 0,
+    }
 }
 
 // "Counters, used among them, stop at 2^64 - 1."

@@ -13,8 +13,11 @@ mod view;
 mod whole;
 
 pub use build::{build, Runtime};
+pub use convert::{refusal, tick};
 pub use oracle::Oracle;
 pub use plan::{plan, Planned};
+pub use process::Scripted;
+pub use room::schedule_initial;
 pub use whole::{run_whole, Ran, Whole};
 
 /// Who gave an answer.

@@ -1,0 +1,4 @@
+pub mod Fields
+pub mod Streams
+pub mod Room
+pub mod Words

@@ -1,0 +1,3 @@
+-- Numbers and bytes as bits, most significant first.
+pub mod Bits
+pub mod Bytes

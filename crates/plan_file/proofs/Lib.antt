@@ -1,0 +1,12 @@
+pub mod Examples
+pub mod Walk
+pub mod Steps
+pub mod Rests
+pub mod Reading
+pub mod Placing
+pub mod Numbers
+pub mod Files
+pub mod Events
+pub mod Stands
+pub mod Messages
+pub mod Theorem

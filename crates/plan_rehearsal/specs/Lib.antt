@@ -1,0 +1,2 @@
+pub mod Rehearses
+pub mod Setups

@@ -1,0 +1,5 @@
+pub mod Follows
+pub mod Onward
+pub mod Stepped
+pub mod Replied
+pub mod Turned

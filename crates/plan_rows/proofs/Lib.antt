@@ -1,0 +1,5 @@
+pub mod Spread
+pub mod Filling
+pub mod Tables
+pub mod Edges
+pub mod Made

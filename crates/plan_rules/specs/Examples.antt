@@ -1,0 +1,94 @@
+-- Plans and their listings, byte by byte: document 01's rehearsals C1 to C10, as far as they come as a file, and what else 02 says in words.
+-- Left out, since a file has one run and no host that goes on after a refusal: that C8's initial events are still open, and its second begin. C8 and C9 have a lookahead that 39 lets pass.
+use mathlib.Core.Path.{_≡_}
+use mathlib.Core.List.{List, [], _∷_, _++_}
+use Prim.Native.Nat.{ℕ, _^_, _-_}
+use lib.ListN.{replicate}
+use Rattle.rules.specs.State.{Message}
+use Rattle.rules.specs.Rehearsals.{message, budget}
+use Rattle.plan_file.specs.Plan.{PlanEdge, Reply, Plan}
+use Rattle.plan_file.specs.Examples.{c1File}
+use Rattle.plan_file.specs.File.{encode}
+use Rattle.plan_rules.specs.Listing.{listed, refused, rehearsed}
+use Rattle.plan_rules.specs.Export.{Exported, exported, printed}
+use Rattle.plan_rules.specs.Characters.{bytes}
+
+abbrev pub edge : ℕ → ℕ → PlanEdge
+edge a b = record { source = a; destination = b }
+
+abbrev pub reply : ℕ → List Message → Reply
+reply p ms = record { process = p; messages = ms }
+
+abbrev pub plan : ℕ → ℕ → ℕ → ℕ → List PlanEdge → List Message → List Reply → Plan
+plan n L h b es ms rs = record { n = n; lookahead = L; horizon = h; budget = b; edges = es; initial = ms; replies = rs }
+
+-- "L = 3, edges 0→1 and 1→0, horizon 9, budget 1,000,000, unless said": with the budget b, and with 1,000,000.
+abbrev pub bothWays : List PlanEdge
+bothWays = edge 0 1 ∷ edge 1 0 ∷ []
+
+abbrev pub pairWith : ℕ → List Message → List Reply → Plan
+pairWith b ms rs = plan 2 3 9 b bothWays ms rs
+
+abbrev pub pair : List Message → List Reply → Plan
+pair ms rs = pairWith budget ms rs
+
+-- What build refuses, or an initial event, or the first batch.
+abbrev pub edges-only : ℕ → ℕ → ℕ → List PlanEdge → Plan
+edges-only n L h es = plan n L h budget es [] []
+
+abbrev pub returned : ℕ → List ℕ → Exported
+returned k l = record { number = k; slice = l }
+
+abbrev pub c1Listing : List ℕ
+c1Listing = bytes "end 0 00000000000000000000000000000009 4 6\n"
+
+pub record Examples : Type 0 where
+  -- "C1 gives only `end 0 00000000000000000000000000000009 4 6`"
+  pub c1 : rehearsed (pair [] []) ≡ listed (bytes "end 0 00000000000000000000000000000009 4 6\n")
+  pub c2 : rehearsed (pair (message 0 1 3 ∷ []) []) ≡ listed (bytes "1 00000000000000000000000000000003 0\nend 0 00000000000000000000000000000009 5 6\n")
+  pub c3 : rehearsed (pair (message 0 1 2 ∷ []) []) ≡ listed (bytes "1 00000000000000000000000000000002 0\nend 0 00000000000000000000000000000009 5 6\n")
+  -- 24 at the first step, and after an Advanced.
+  pub c4 : rehearsed (pairWith 0 (message 0 1 2 ∷ []) []) ≡ listed (bytes "end 24 00000000000000000000000000000000 0 0\n")
+  pub c5 : rehearsed (pairWith 0 (message 0 1 3 ∷ []) []) ≡ listed (bytes "end 24 00000000000000000000000000000002 1 2\n")
+  pub c6 : rehearsed (pair (message 0 1 2 ∷ []) (reply 1 (message 1 1 2 ∷ []) ∷ [])) ≡ listed (bytes "1 00000000000000000000000000000002 0\n1 00000000000000000000000000000002 1\nend 0 00000000000000000000000000000009 6 6\n")
+  pub c6-refused : rehearsed (pair (message 0 1 2 ∷ []) (reply 1 (message 1 1 1 ∷ []) ∷ [])) ≡ listed (bytes "end 32 00000000000000000000000000000000 0 0\n")
+  -- Another process's reply stands before it.
+  pub c7 : rehearsed (pair (message 0 1 2 ∷ []) (reply 0 [] ∷ reply 1 (message 1 0 5 ∷ []) ∷ [])) ≡ listed (bytes "1 00000000000000000000000000000002 0\n0 00000000000000000000000000000005 1\nend 0 00000000000000000000000000000009 6 6\n")
+  -- "none for a batch refused by other than 24"
+  pub c7-refused : rehearsed (pair (message 0 1 2 ∷ []) (reply 1 (message 1 0 4 ∷ []) ∷ [])) ≡ listed (bytes "end 32 00000000000000000000000000000000 0 0\n")
+  pub c8 : rehearsed (edges-only 2 (2 ^ 127) (2 ^ 128 - 1) bothWays) ≡ listed (bytes "end 22 00000000000000000000000000000000 0 0\n")
+  pub c8-accepted : rehearsed (edges-only 2 (2 ^ 127) (2 ^ 128 - 2) bothWays) ≡ listed (bytes "end 0 fffffffffffffffffffffffffffffffe 2 2\n")
+  pub c9 : rehearsed (plan 2 (2 ^ 127) (2 ^ 128 - 2) budget (edge 0 1 ∷ []) (message 0 0 (2 ^ 128 - 2) ∷ []) (reply 0 (message 0 1 (2 ^ 128 - 1) ∷ []) ∷ [])) ≡ listed (bytes "end 31 00000000000000000000000000000000 0 0\n")
+  pub c10 : rehearsed (pair (message 1 1 2 ∷ message 0 1 2 ∷ []) []) ≡ listed (bytes "1 00000000000000000000000000000002 0\n1 00000000000000000000000000000002 1\nend 0 00000000000000000000000000000009 6 6\n")
+  -- 24 at hand back: its batch was handled, so it is listed.
+  pub spent-at-hand-back : rehearsed (pairWith 1 (message 0 1 2 ∷ message 0 1 2 ∷ []) []) ≡ listed (bytes "1 00000000000000000000000000000002 0\nend 24 00000000000000000000000000000000 1 0\n")
+  -- 26: a payload of 17 in the reply.
+  pub long-payload : rehearsed (pair (message 0 1 2 ∷ []) (reply 1 (record { source = 1; destination = 1; tick = 2; payload = replicate 17 0 } ∷ []) ∷ [])) ≡ listed (bytes "end 26 00000000000000000000000000000000 0 0\n")
+  -- The second reply of process 1 answers its second event, wherever others stand between.
+  pub second-reply : rehearsed (pair (message 0 1 2 ∷ message 1 1 2 ∷ []) (reply 1 [] ∷ reply 9 (message 3 3 3 ∷ []) ∷ reply 1 (message 1 1 7 ∷ []) ∷ [])) ≡ listed (bytes "1 00000000000000000000000000000002 0\n1 00000000000000000000000000000002 1\n1 00000000000000000000000000000007 1\nend 0 00000000000000000000000000000009 7 6\n")
+  -- 5: edges 0→1, 1→0, 0→2 do not stand by rising source.
+  pub falling : rehearsed (edges-only 3 3 9 (edge 0 1 ∷ edge 1 0 ∷ edge 0 2 ∷ [])) ≡ listed (bytes "end 5 00000000000000000000000000000000 0 0\n")
+  -- An edge from 5: 7 comes after the rows of the processes, so after 8.
+  pub unknown-source : rehearsed (edges-only 2 3 9 (edge 0 1 ∷ edge 5 0 ∷ [])) ≡ listed (bytes "end 7 00000000000000000000000000000000 0 0\n")
+  pub unknown-later : rehearsed (edges-only 2 3 9 (edge 0 4 ∷ edge 5 0 ∷ [])) ≡ listed (bytes "end 8 00000000000000000000000000000000 0 0\n")
+  -- 15, behind an initial event that was accepted.
+  pub unknown-destination : rehearsed (pair (message 0 1 2 ∷ message 0 2 2 ∷ []) []) ≡ listed (bytes "end 15 00000000000000000000000000000000 0 0\n")
+  -- 1, ahead of 2 and 5.
+  pub no-process : rehearsed (edges-only 0 0 9 (edge 1 0 ∷ edge 0 1 ∷ [])) ≡ listed (bytes "end 1 00000000000000000000000000000000 0 0\n")
+  -- 39: floor(65,537 × 3 / 3) is above 65,536. A refused build comes before it, and it before a refused initial event.
+  pub too-long : rehearsed (plan 2 3 196611 budget bothWays (message 0 2 2 ∷ []) []) ≡ refused 39
+  pub refused-first : rehearsed (edges-only 2 3 196611 (edge 1 0 ∷ edge 0 1 ∷ [])) ≡ listed (bytes "end 5 00000000000000000000000000000000 0 0\n")
+  pub no-lookahead : rehearsed (edges-only 2 0 196611 bothWays) ≡ listed (bytes "end 2 00000000000000000000000000000000 0 0\n")
+  -- One less: floor(196,610 / 3) is 65,536, and passes.
+  pub not-too-long : rehearsed (plan 2 3 196610 budget bothWays (message 0 2 2 ∷ []) []) ≡ listed (bytes "end 15 00000000000000000000000000000000 0 0\n")
+  -- C1's file: its listing has 43 bytes, and a slice of 43 holds it. "39 fills the slice with zeros"; bytes of the slice behind a listing are zeros too.
+  pub printed-c1 : printed (c1File 0) ≡ c1Listing
+  pub no-slice : exported (c1File 0) [] ≡ returned 39 []
+  pub short-slice : exported (c1File 0) (replicate 42 7) ≡ returned 39 (replicate 42 0)
+  pub whole-slice : exported (c1File 0) (replicate 43 7) ≡ returned 0 c1Listing
+  pub long-slice : exported (c1File 0) (replicate 45 7) ≡ returned 0 (c1Listing ++ (0 ∷ 0 ∷ []))
+  -- "37 and 38 write nothing"
+  pub not-read : exported (c1File 1) (7 ∷ []) ≡ returned 37 (7 ∷ [])
+  pub not-looked-at : exported (replicate 16385 0) (7 ∷ []) ≡ returned 38 (7 ∷ [])
+  -- 39 for a run that is too long.
+  pub cleared-39 : exported (encode (edges-only 2 3 196611 bothWays)) (7 ∷ []) ≡ returned 39 (0 ∷ [])

@@ -1,0 +1,3 @@
+pub mod Opens
+pub mod Ends
+pub mod RunsBuilt
