@@ -10,6 +10,7 @@ use state::Runtime;
 use text_output::ROOM;
 use types::LpId;
 use types::SimTime;
+ghost use mathlib.Core.Path.{_≡_};
 ghost use Prim.Native.Nat.{_≤_};
 ghost use lib.ListN.{length};
 
@@ -21,6 +22,9 @@ const TICK: usize = 2;
 const EDGE: usize = 4;
 
 const EVENT: usize = 8;
+
+// The words of each half of the processes' table: 64 ticks.
+const HALF: usize = 128;
 
 // The digits of a word of payload, two for each byte.
 const DIGITS: usize = 16;
@@ -281,19 +285,29 @@ fn put_numbers(out: &mut [u8; ROOM], at: usize, head: Header, counters: Counters
     put_sizes(out, end, head)
 }
 
-// The five fields from the edges to the batch.
+// The local horizons of n processes, then their least inbound bounds: the halves of their table.
+fn put_processes(out: &mut [u8; ROOM], at: usize, w: &[u64], n: usize) -> usize
+    requires { ⌜ length (now w) ≡ 256 ⌝ }
+{
+    let end = put_list(out, at, &w[0..HALF], TICK, n);
+    put_list(out, end, &w[HALF..], TICK, n)
+}
+
+// The six fields from the edges to the batch.
 fn put_lists<'a>(
     out: &mut [u8; ROOM],
     at: usize,
     head: Header,
     edges: &'a [u64],
     pending: &'a [u64],
-    horizons: &'a [u64],
+    processes: &'a [u64],
     batch: &'a [u64],
-) -> usize {
+) -> usize
+    requires { ⌜ length (now processes) ≡ 256 ⌝ }
+{
     let mut end = put_list(out, at, edges, EDGE, head.edges);
     end = put_list(out, end, pending, EVENT, head.pending);
-    end = put_list(out, end, horizons, TICK, head.n);
+    end = put_processes(out, end, processes, head.n);
     end = put_stored(out, end, head.stored, head.horizon, head.budget);
     put_list(out, end, batch, EVENT, head.batch)
 }
@@ -306,7 +320,7 @@ fn print_lists(out: &mut [u8; ROOM], at: usize, state: Runtime) {
         head,
         &state.edges,
         &state.pending,
-        &state.horizons,
+        &state.processes,
         &state.batch,
     );
     print_flags(out, end, head.initial, head.running, head.poisoned);

@@ -1,23 +1,33 @@
 -- The state of an accepted build, and what its rows give.
-use mathlib.Core.Path.{_≡_, refl, sym, ap}
+use mathlib.Core.Path.{_≡_, refl, sym, ap, _∙_}
 use mathlib.Core.Bool.{true, false, not}
 use mathlib.Core.List.{List, [], _∷_}
-use Prim.Native.Nat.{ℕ, zero, suc, _+_, _*_}
+use Prim.Native.Nat.{ℕ, zero, suc, _+_, _*_, _≤_}
 use native.Mathlib.Omega.{arith}
 use lib.ListN.{length, getD}
 use Rattle.types.specs.declared.SimDuration.{SimDuration}
 use Rattle.types.specs.Value.{halves, durationOf}
-use Rattle.words.specs.Words.{tab, tickAt, zeroes}
+use Rattle.words.specs.Words.{tab, tickAt, tickOf, horizonsOf, inboundsOf, zeroes}
+use Rattle.words.proofs.Tab.{tab-cong}
+use Rattle.records.specs.Records.{edgeAt, edgesOf}
+use Rattle.records.proofs.Placing.{all-at}
 use Rattle.rules.specs.Base.{upFrom, upTo}
 use Rattle.rules.specs.State.{Counters, unset}
 use Rattle.rules.specs.Answers.{Accepted}
-use Rattle.rules.specs.Build.{setup, malformedRows, built, build}
-use Rattle.rules.proofs.Built.{noughts}
+use Rattle.rules.specs.Frontiers.{inboundOf}
+use Rattle.rules.specs.Foreign.{foreign}
+use Rattle.rules.specs.Build
+use Rattle.rules.specs.Build.{Setup, setup, malformedRows, built, build}
+use Rattle.rules.proofs.Lists.{All}
+use Rattle.rules.proofs.Shape.{Joined, Shaped, shaped, passes-11}
+use Rattle.rules.proofs.Built.{noughts, makes}
+use Rattle.inbound.specs.Inbound.{RecordsInbound, Destinations}
+use Rattle.inbound.proofs.Recording.{inbounds-made}
 use Rattle.build_topology.specs.Checks.{RowsWellFormed}
 use Rattle.build_topology.proofs.Sums.{fit-few, fit-fitting}
 use Rattle.build_edges.specs.Written.{Writable, WritesEdges}
 use Rattle.state.specs.declared.Header.{Header}
-use Rattle.build.specs.Initialized.{Initializes}
+use Rattle.build.specs.Initialized.{CanInitialize, Initializes}
 use Rattle.build.proofs.AnswerRows.{passed-all}
 
 nought : (k i : ℕ) → getD (zeroes k) i 0 ≡ 0
@@ -29,31 +39,75 @@ tick-nought : (k i : ℕ) → tickAt (zeroes k) i ≡ 0
 unfolding tickAt halves
 tick-nought k i = rw (nought k i, nought k (i + 1))
 
-horizons-nought : (k i n : ℕ) → tab (λ j. tickAt (zeroes k) (2 * j)) i n ≡ noughts i n
+noughts-made : (i n : ℕ) → tab (λ _. 0) i n ≡ noughts i n
 unfolding tab upFrom
-horizons-nought k i zero = refl
-horizons-nought k i (suc n) = λ j. tick-nought k (2 * i) j ∷ horizons-nought k (suc i) n j
+noughts-made i zero = refl
+noughts-made i (suc n) = ap (λ (l : List ℕ). 0 ∷ l) (noughts-made (suc i) n)
 
 -- The header of a runtime just built.
 abbrev fresh : ℕ → SimDuration → ℕ → Header
 fresh n L edges = record { n = n; lookahead = L; edges = edges; pending = 0; batch = 0; next = 0; gvt = record { hi = 0; lo = 0 }; stored = false; horizon = record { hi = 0; lo = 0 }; budget = 0; used = 0; initial = true; running = false; poisoned = false }
 
-pub laid : (n : ℕ) (L : SimDuration) (sources counts ds w u : List ℕ) → WritesEdges sources counts ds (durationOf L) w u → Initializes n (durationOf L) sources counts ds w u (fresh n L (length ds))
-unfolding built tab halves upTo
-laid n L sources counts ds w u e = record {
-  state = λ ids P B k i. record { n = n; lookahead = durationOf L; edges = e .edges i; pending = []; next = 0; horizons = horizons-nought k 0 n i; gvt = 0; stored = unset; used = 0; batch = []; initial = true; running = false; poisoned = false };
-  behind = e .beyond;
-}
+module _ (n : ℕ) (L : SimDuration) (sources counts ds w z : List ℕ) (i : CanInitialize n (durationOf L) sources counts ds w z) where
+  abbrev a : Setup
+  a = setup n (durationOf L) [] sources counts ds
 
--- Rows that passed 5 can be written.
+  shape : Shaped (built a)
+  shape = shaped (built a) (i .passes)
+
+  pub few : n ≤ 64
+  unfolding built
+  few = shape .sized .few
+
+  pub table-words : length z ≡ 256
+  table-words = rw (i .blank)
+
+  pub edge-words : (u : List ℕ) → length u ≡ length w → 4 * length ds ≤ length u
+  edge-words u l = omega (arith, i .writable .room)
+
+  -- The edges are written.
+  module _ (u : List ℕ) (e : WritesEdges sources counts ds (durationOf L) w u) where
+    joined : All (Joined n) (edgesOf (length ds) u)
+    unfolding built
+    joined = rw (e .edges) (shape .wired .joined)
+
+    pub known : Destinations 64 (length ds) u
+    unfolding Destinations
+    known k h = omega (arith, all-at (Joined n) (edgeAt u) 0 (length ds) k joined (omega arith) (omega arith) .destination, few)
+
+    -- Their record is made, and the local horizons are still zeros.
+    module _ (y : List ℕ) (r : RecordsInbound n (edgesOf (length ds) u) z y) where
+      horizons-nought : horizonsOf n y ≡ noughts 0 n
+      horizons-nought =
+          tab-cong (tickOf y) (λ _. 0) 0 n (λ p g h. r .horizons p (omega (arith, few)) ∙ rw (i .blank) (tick-nought 256 (2 * p)))
+          ∙ noughts-made 0 n
+
+      record-made : inboundsOf n y ≡ inboundOf n (Build.edgesOf (durationOf L) sources counts ds)
+      record-made = inbounds-made n (edgesOf (length ds) u) z y r ∙ ap (inboundOf n) (e .edges)
+
+      pub laid : Initializes n (durationOf L) sources counts ds w u y (fresh n L (length ds))
+      unfolding built tab halves upTo
+      laid = record {
+        state = λ ids P B j. record { n = n; lookahead = durationOf L; edges = e .edges j; pending = []; next = 0; horizons = horizons-nought j; inbound = record-made j; gvt = 0; stored = unset; used = 0; batch = []; initial = true; running = false; poisoned = false };
+        behind = e .beyond;
+      }
+
+-- What build accepted can be made.
 module _ (n L : ℕ) (ids sources counts ds : List ℕ) where
   fits : malformedRows (setup n L ids sources counts ds) ≡ false → RowsWellFormed sources counts ds true
   unfolding malformedRows
   fits e = record { of-setup = λ n L ids. sym (ap not e) }
 
-  pub writable : (c : Counters) (edges : List ℕ) → build (setup n L ids sources counts ds) c .answer ≡ Accepted → length edges ≡ 2048 → Writable sources counts ds edges
+  writable : (c : Counters) (edges : List ℕ) → build (setup n L ids sources counts ds) c .answer ≡ Accepted → length edges ≡ 2048 → Writable sources counts ds edges
   writable c edges e l =
       let p = passed-all (setup n L ids sources counts ds) c e in
       let fit = fits (p .1 .1 .1 .1 .0) in
       let f = fit-fitting 0 sources counts ds (omega arith) fit in
       record { paired = f .paired; used-up = f .used-up; room = omega (arith, fit-few 0 sources counts ds (omega arith) fit) }
+
+  without-ids : foreign (built (setup n L ids sources counts ds)) ≡ false → foreign (built (setup n L [] sources counts ds)) ≡ false
+  unfolding built
+  without-ids p = p
+
+  pub can-initialize : (c : Counters) (edges : List ℕ) → build (setup n L ids sources counts ds) c .answer ≡ Accepted → length edges ≡ 2048 → CanInitialize n L sources counts ds edges (zeroes 256)
+  can-initialize c edges e l = record { writable = writable c edges e l; passes = without-ids (passes-11 _ (makes (setup n L ids sources counts ds) c e .shaped)); blank = refl }

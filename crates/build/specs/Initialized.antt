@@ -1,18 +1,26 @@
 -- What an accepted build makes, and what stands for nothing made.
 use mathlib.Core.Path.{_≡_}
 use mathlib.Core.Bool.{false}
-use mathlib.Core.List.{List}
+use mathlib.Core.List.{List, []}
 use Prim.Native.Nat.{ℕ, _*_}
 use lib.ListN.{length, drop}
 use Rattle.words.specs.Words.{zeroes}
 use Rattle.rules.specs.Build.{setup, built}
+use Rattle.rules.specs.Foreign.{foreign}
+use Rattle.build_edges.specs.Written.{Writable}
 use Rattle.state.specs.declared.Header.{Header}
 use Rattle.state.specs.declared.Runtime.{Runtime}
 use Rattle.state.specs.View.{view}
 
--- "Once built, nothing is pending, ..": the header and the edges are those of the built state, where the horizons' words are zeros. The other words may be any.
-pub record Initializes (n L : ℕ) (sources counts destinations entry exit : List ℕ) (r : Header) : Type 0 where
-  pub state : (ids P B : List ℕ) (k : ℕ) → view r exit P (zeroes k) B ≡ built (setup n L ids sources counts destinations)
+-- What making it asks: rows that can be written, a state that passes 11, as that of an accepted build does (proofs/Initializing.antt, can-initialize), and zeros in the table of the processes. The ids play no part in what is made.
+pub record CanInitialize (n L : ℕ) (sources counts destinations edges processes : List ℕ) : Type 0 where
+  pub writable : Writable sources counts destinations edges
+  pub passes : foreign (built (setup n L [] sources counts destinations)) ≡ false
+  pub blank : processes ≡ zeroes 256
+
+-- "Once built, nothing is pending, ..": with these edges and processes the header is that of the built state, whose record is that of its edges (A.2). The pending words and those of the batch may be any.
+pub record Initializes (n L : ℕ) (sources counts destinations entry exit processes : List ℕ) (r : Header) : Type 0 where
+  pub state : (ids P B : List ℕ) → view r exit P processes B ≡ built (setup n L ids sources counts destinations)
   pub behind : drop (4 * length destinations) exit ≡ drop (4 * length destinations) entry
 
 -- All zeros: a process count of 0 is foreign.
@@ -21,4 +29,4 @@ emptyHeader = record { n = 0; lookahead = record { hi = 0; lo = 0 }; edges = 0; 
 
 -- "nothing made": the state that stands for none. Every later call refuses it (runtime/proofs/Empty).
 abbrev pub emptyRuntime : Runtime
-emptyRuntime = record { edges = zeroes 2048; pending = zeroes 4096; horizons = zeroes 128; batch = zeroes 512; head = emptyHeader }
+emptyRuntime = record { edges = zeroes 2048; pending = zeroes 4096; processes = zeroes 256; batch = zeroes 512; head = emptyHeader }

@@ -1,5 +1,5 @@
-// Build on lent lists: its checks 1 to 10 in their order, and the header and the edges that an accepted
-// build makes.
+// Build on lent lists: its checks 1 to 10 in their order, and the header, the edges and the record that
+// an accepted build makes.
 use build_ids::MissingRow;
 use build_topology::TopologyCheck;
 use state::Header;
@@ -10,9 +10,8 @@ ghost use mathlib.Core.Path.{_≡_};
 ghost use Prim.Native.Nat.{_≤_};
 ghost use Rattle.types.specs.Value.{durationOf};
 ghost use Rattle.build_topology.specs.Checks.{refusalOf};
-ghost use Rattle.build_edges.specs.Written.{Writable};
 ghost use Rattle.build.specs.Checks.{answerOf, answerFor, ChecksProcesses, ChecksTopology, ChecksBuild};
-ghost use Rattle.build.specs.Initialized.{emptyHeader, Initializes};
+ghost use Rattle.build.specs.Initialized.{CanInitialize, Initializes, emptyHeader};
 
 // What build answers.
 pub enum BuildAnswer {
@@ -110,7 +109,7 @@ pub fn check<'a>(
     }
 }
 
-// The header of an accepted build, and its edges as words.
+// The header of an accepted build, its edges as words, and the record of their least inbound bounds.
 pub fn initialize<'a>(
     n: u64,
     lookahead: SimDuration,
@@ -118,11 +117,13 @@ pub fn initialize<'a>(
     counts: &'a [u64],
     destinations: &'a [u32],
     edges: &mut [u64],
+    processes: &mut [u64],
 ) -> Header
-    requires { ⌜ Writable (now sources) (now counts) (now destinations) (now edges) ⌝ }
-    ensures { λ r. ⌜ Initializes n (durationOf lookahead) (now (sources .entry)) (now (counts .entry)) (now (destinations .entry)) (now (edges .entry)) (now (edges .exit)) r ⌝ }
+    requires { ⌜ CanInitialize n (durationOf lookahead) (now sources) (now counts) (now destinations) (now edges) (now processes) ⌝ }
+    ensures { λ r. ⌜ Initializes n (durationOf lookahead) (now (sources .entry)) (now (counts .entry)) (now (destinations .entry)) (now (edges .entry)) (now (edges .exit)) (now (processes .exit)) r ⌝ }
 {
     build_edges::write_edges(sources, counts, destinations, lookahead, edges);
+    inbound::record_inbound(edges, destinations.len(), n as usize, processes);
     Header {
         n: n as usize,
         lookahead: lookahead,

@@ -160,19 +160,19 @@ pub fn read_state(lookahead: SimDuration) -> GivenState {
     let mut w = [0u64; STATE_WORDS];
     let mut edges = [0u64; 2048];
     let mut pending = [0u64; 4096];
-    let mut horizons = [0u64; 128];
+    let mut processes = [0u64; 256];
     let mut batch = [0u64; 512];
     let whole = text_input::read_words(STDIN_FILENO, &mut w) == STATE_WORDS
         && read_array(&mut edges)
         && read_array(&mut pending)
-        && read_array(&mut horizons)
+        && read_array(&mut processes)
         && read_array(&mut batch);
     GivenState {
         whole: whole,
         state: Runtime {
             edges: edges,
             pending: pending,
-            horizons: horizons,
+            processes: processes,
             batch: batch,
             head: header_of(lookahead, w),
         },

@@ -18,11 +18,11 @@ use Rattle.schedule_initial.specs.AddsInitial.{CanEnqueue}
 use Rattle.call_words.specs.Decode.{decode, size}
 
 -- Answer, state and counters are what the rule gives for the call k.
-pub record Executes (k : Call) (h : Header) (c : Counters) (edges pending horizons batch : List ℕ) (r : CoreResult) (edges′ pending′ horizons′ batch′ : List ℕ) : Type 0 where
-  pub gives : out (answerOf (eventsOf (r .head .batch) batch′) (r .answer)) (view (r .head) edges′ pending′ horizons′ batch′) (countersOf (r .counters)) ≡ rule (view h edges pending horizons batch) (countersOf c) k
+pub record Executes (k : Call) (h : Header) (c : Counters) (edges pending processes batch : List ℕ) (r : CoreResult) (edges′ pending′ processes′ batch′ : List ℕ) : Type 0 where
+  pub gives : out (answerOf (eventsOf (r .head .batch) batch′) (r .answer)) (view (r .head) edges′ pending′ processes′ batch′) (countersOf (r .counters)) ≡ rule (view h edges pending processes batch) (countersOf c) k
   -- The answer's number and values are document 01's.
-  pub number-is : numberOf (r .answer) ≡ number (rule (view h edges pending horizons batch) (countersOf c) k .answer)
-  pub values-are : valuesOf (eventsOf (r .head .batch) batch′) (r .answer) ≡ values (rule (view h edges pending horizons batch) (countersOf c) k .answer)
+  pub number-is : numberOf (r .answer) ≡ number (rule (view h edges pending processes batch) (countersOf c) k .answer)
+  pub values-are : valuesOf (eventsOf (r .head .batch) batch′) (r .answer) ≡ values (rule (view h edges pending processes batch) (countersOf c) k .answer)
 
 -- The same of add initial and begin, whatever the arrays are that these are not lent.
 abbrev pub ExecutesAddOrBegin : Call → Header → Counters → List ℕ → List ℕ → CoreResult → List ℕ → Type 0

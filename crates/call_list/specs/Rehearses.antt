@@ -1,28 +1,19 @@
 -- What a rehearsal promises: the rules' history of the decoded calls, and demand 3 of it.
 use mathlib.Core.Path.{_≡_}
-use mathlib.Core.Bool.{false}
-use mathlib.Core.List.{List, []}
+use mathlib.Core.List.{List}
 use Prim.Native.Nat.{ℕ}
 use lib.ListN.{length}
-use Rattle.words.specs.Words.{zeroes}
 use Rattle.rules.specs.State as R
 use Rattle.rules.specs.Answers.{Refusal, Accepted, Refused}
-use Rattle.rules.specs.Build.{Setup, setup, built, build}
-use Rattle.rules.specs.Foreign.{foreign}
+use Rattle.rules.specs.Build.{Setup, setup, build}
 use Rattle.rules.specs.History.{History, emptyHistory, runCalls}
 use Rattle.rules.specs.Demand.{Demanded}
-use Rattle.build_edges.specs.Written.{Writable}
 use Rattle.state.specs.View.{viewOf, countersOf, zeroCounters}
 use Rattle.build.specs.declared.BuildAnswer.{BuildAnswer}
 use Rattle.build.specs.Checks.{answerOf}
 use Rattle.build.specs.Initialized.{emptyRuntime}
 use Rattle.call_words.specs.Decode.{decodeAll}
 use Rattle.call_list.specs.declared.RehearsalResult.{RehearsalResult}
-
--- What an accepted build is known to be. The ids play no part in what it makes.
-pub record CanStart (n L : ℕ) (sources counts destinations : List ℕ) : Type 0 where
-  pub writable : Writable sources counts destinations (zeroes 2048)
-  pub passes : foreign (built (setup n L [] sources counts destinations)) ≡ false
 
 -- The history of the decoded calls on what a build made.
 abbrev pub historyOf : Setup → List ℕ → History

@@ -17,7 +17,9 @@ ghost use mathlib.Core.Path.{_≡_};
 ghost use Rattle.types.specs.Value.{durationOf};
 ghost use Rattle.rules.specs.Build.{setup};
 ghost use Rattle.call_list.specs.Runs.{RunsCalls};
-ghost use Rattle.call_list.specs.Rehearses.{CanStart, RehearsesAccepted, Rehearses};
+ghost use Rattle.words.specs.Words.{zeroes};
+ghost use Rattle.build.specs.Initialized.{CanInitialize};
+ghost use Rattle.call_list.specs.Rehearses.{RehearsesAccepted, Rehearses};
 
 // Add initial or begin, which count nothing.
 fn add_or_begin(
@@ -65,24 +67,33 @@ pub fn execute(
     counters: Counters,
     edges: &mut [u64],
     pending: &mut [u64],
-    horizons: &mut [u64],
+    processes: &mut [u64],
     batch: &mut [u64],
     words: &[u64],
     at: usize,
 ) -> CoreResult
-    requires { ⌜ ValidArrays head (now edges) (now pending) (now horizons) (now batch) × (0 < size (decode (now words) at)) ⌝ }
-    ensures { λ r. ⌜ Executes (callOf (decode (now (words .entry)) at)) head counters (now (edges .entry)) (now (pending .entry)) (now (horizons .entry)) (now (batch .entry)) r (now (edges .exit)) (now (pending .exit)) (now (horizons .exit)) (now (batch .exit)) ⌝ }
+    requires { ⌜ ValidArrays head (now edges) (now pending) (now processes) (now batch) × (0 < size (decode (now words) at)) ⌝ }
+    ensures { λ r. ⌜ Executes (callOf (decode (now (words .entry)) at)) head counters (now (edges .entry)) (now (pending .entry)) (now (processes .entry)) (now (batch .entry)) r (now (edges .exit)) (now (pending .exit)) (now (processes .exit)) (now (batch .exit)) ⌝ }
 {
     let tag = words[at];
     if tag < STEP {
         return execute_add_or_begin(head, counters, edges, pending, words, at);
     }
     if tag == STEP {
-        return step::step(head, counters, edges, pending, horizons, batch);
+        return step::step(head, counters, edges, pending, processes, batch);
     }
     let mask = words[at + 1];
     let reply = call_words::reply_in(words, at);
-    hand_back::hand_back(head, counters, edges, pending, horizons, batch, mask, reply)
+    hand_back::hand_back(
+        head,
+        counters,
+        edges,
+        pending,
+        processes,
+        batch,
+        mask,
+        reply,
+    )
 }
 
 // What carrying out all calls of the words leaves, and how many there were.
@@ -105,19 +116,19 @@ fn run_calls(
     mut head: Header,
     edges: &mut [u64],
     pending: &mut [u64],
-    horizons: &mut [u64],
+    processes: &mut [u64],
     batch: &mut [u64],
     words: &[u64],
 ) -> RunResult
-    requires { ⌜ ValidArrays head (now edges) (now pending) (now horizons) (now batch) ⌝ }
-    ensures { λ r. ⌜ RunsCalls head (now (edges .entry)) (now (pending .entry)) (now (horizons .entry)) (now (batch .entry)) (now (words .entry)) r (now (edges .exit)) (now (pending .exit)) (now (horizons .exit)) (now (batch .exit)) ⌝ }
+    requires { ⌜ ValidArrays head (now edges) (now pending) (now processes) (now batch) ⌝ }
+    ensures { λ r. ⌜ RunsCalls head (now (edges .entry)) (now (pending .entry)) (now (processes .entry)) (now (batch .entry)) (now (words .entry)) r (now (edges .exit)) (now (pending .exit)) (now (processes .exit)) (now (batch .exit)) ⌝ }
 {
     let mut counters = state::zero_counters();
     let mut at: usize = 0;
     let mut calls: usize = 0;
     let mut count = call_words::call_size(words, 0);
     while 0 < count {
-        let after = execute(head, counters, edges, pending, horizons, batch, words, at);
+        let after = execute(head, counters, edges, pending, processes, batch, words, at);
         head = after.head;
         counters = after.counters;
         at += count;
@@ -140,19 +151,27 @@ fn rehearse_accepted<'a>(
     destinations: &'a [u32],
     words: &'a [u64],
 ) -> RehearsalResult
-    requires { ⌜ CanStart n (durationOf lookahead) (now sources) (now counts) (now destinations) ⌝ }
+    requires { ⌜ CanInitialize n (durationOf lookahead) (now sources) (now counts) (now destinations) (zeroes 2048) (zeroes 256) ⌝ }
     ensures { λ r. ⌜ RehearsesAccepted n (durationOf lookahead) (now (sources .entry)) (now (counts .entry)) (now (destinations .entry)) (now (words .entry)) r ⌝ }
 {
     let mut edges = [0u64; 2048];
     let mut pending = [0u64; 4096];
-    let mut horizons = [0u64; 128];
+    let mut processes = [0u64; 256];
     let mut batch = [0u64; 512];
-    let head = build::initialize(n, lookahead, sources, counts, destinations, &mut edges);
+    let head = build::initialize(
+        n,
+        lookahead,
+        sources,
+        counts,
+        destinations,
+        &mut edges,
+        &mut processes,
+    );
     let ran = run_calls(
         head,
         &mut edges,
         &mut pending,
-        &mut horizons,
+        &mut processes,
         &mut batch,
         words,
     );
@@ -163,7 +182,7 @@ fn rehearse_accepted<'a>(
         state: Runtime {
             edges: edges,
             pending: pending,
-            horizons: horizons,
+            processes: processes,
             batch: batch,
             head: h,
         },
@@ -193,7 +212,7 @@ pub fn rehearse<'a>(
         state: Runtime {
             edges: [0; 2048],
             pending: [0; 4096],
-            horizons: [0; 128],
+            processes: [0; 256],
             batch: [0; 512],
             head: build::empty_header(),
         },

@@ -1,51 +1,114 @@
--- The edges passed, from the last to the first: none bad so far, and each in the table.
+-- The edges passed, from the last to the first: none invalid so far, and each in the table.
 use mathlib.Core.Path.{_≡_, sym, ap, _∙_}
-use mathlib.Core.Bool.{Bool, true, false, _||_, or-true, or-false}
+use mathlib.Core.Bool.{Bool, true, false, _||_, or-true, or-false, true≢false}
 use mathlib.Core.List.{List, [], _∷_, _++_}
-use Prim.Native.Nat.{ℕ, _+_, _-_, _≤_, _<_}
+use Prim.Native.Nat.{ℕ, _+_, _-_, _*_, _≤_, _<_}
 use native.Mathlib.Omega.{arith}
 use native.Mathlib.Nat.{zero-add}
-use lib.Dec.{eqb}
+use lib.Dec.{eqb, leb}
+use lib.ListN.{getD}
+use borrow.Author.Tests.{leb-false, lt-leb}
 use Rattle.words.specs.Words.{tab, zeroes}
 use Rattle.words.proofs.Tab.{tab-split, tab-step, tab-none, tab-whole}
 use Rattle.records.specs.Records.{edgeAt, edgesOf}
 use Rattle.rules.specs.Base.{any}
 use Rattle.rules.specs.State.{Edge}
 use Rattle.rules.specs.Pending.{joins, route}
-use Rattle.rules.specs.Foreign.{duplicateOrSelfEdges}
+use Rattle.rules.specs.Foreign.{unknownIdEdge, duplicateOrSelfEdges}
+use Rattle.rules.proofs.Tests.{or-left, or-right, or-both, or-cases}
+use Rattle.inbound.specs.Inbound.{RecordsInbound}
+use Rattle.inbound.proofs.Recording.{Recording, recording-end}
 use Rattle.edges.specs.Routes.{HasRoute, SeenOrMarked}
-use Rattle.edges.proofs.Marks.{no-routes, Routing, routing-start, routing-more}
+use Rattle.edges.specs.Invalid.{InvalidEdge, InvalidEdges}
+use Rattle.edges.proofs.Marks.{no-routes, destination-below, Routing, routing-start, routing-more}
 
--- The edges from i on are passed: none of them is bad, and they are in the table.
-pub record Passing (edges : List ℕ) (n i : ℕ) (w : List ℕ) : Type 0 where
-  pub routing : Routing edges n i w
-  pub sound : duplicateOrSelfEdges (tab (edgeAt edges) i (n - i)) ≡ false
+-- Ends below n are below 64.
+module _ (n : ℕ) (h : n ≤ 64) where
+  low : (x : ℕ) → leb n x ≡ false → leb 64 x ≡ false
+  low x f = lt-leb 64 x (omega (arith, leb-false n x f))
 
-pub passing-start : (edges : List ℕ) (n : ℕ) → Passing edges n n (zeroes 64)
-unfolding duplicateOrSelfEdges
-passing-start edges n = record { routing = routing-start edges n (zeroes 64) no-routes; sound = rw (tab-none (edgeAt edges) n n (omega arith)) }
+  pub both-low : (e : Edge) → unknownIdEdge n e ≡ false → unknownIdEdge 64 e ≡ false
+  both-low e f =
+      let a = leb n (e .source) in
+      let b = leb n (e .destination) in
+      or-both (leb 64 (e .source)) (leb 64 (e .destination)) (low (e .source) (or-left a b f)) (low (e .destination) (or-right a b f))
 
--- A bad edge behind others.
+  -- b is the answer for the edge e.
+  pub answer-low : (e : Edge) (b : Bool) → b ≡ unknownIdEdge n e → b ≡ false → unknownIdEdge 64 e ≡ false
+  answer-low e b q f = both-low e (sym q ∙ f)
+
+-- Edge e is met with the edges of w seen: b is whether an end is unknown.
+module _ (n : ℕ) (e : Edge) (w : List ℕ) (b : Bool) (q : b ≡ unknownIdEdge n e) where
+  pub met-unknown : b ≡ true → InvalidEdge n e w w true
+  met-unknown t = record { answer = λ es r. rw (← q, t); marked = λ x. absurd (true≢false x) }
+
+  pub met-known : b ≡ false → (u : List ℕ) (r : Bool) → SeenOrMarked e w u r → InvalidEdge n e w u r
+  unfolding HasRoute
+  met-known t u r m = record { answer = λ es s. rw (← q, t) (m .bad es s); marked = m .marked }
+
+-- What 11 says of edges.
+abbrev pub invalid : ℕ → List Edge → Bool
+invalid n es = any (unknownIdEdge n) es || duplicateOrSelfEdges es
+
+-- An invalid edge behind others.
+unknown-behind : (n : ℕ) (xs ys : List Edge) → any (unknownIdEdge n) ys ≡ true → any (unknownIdEdge n) (xs ++ ys) ≡ true
+unfolding any
+unknown-behind n [] ys h = h
+unknown-behind n (x ∷ xs) ys h = rw (unknown-behind n xs ys h) (or-true (unknownIdEdge n x))
+
 bad-behind : (xs ys : List Edge) → duplicateOrSelfEdges ys ≡ true → duplicateOrSelfEdges (xs ++ ys) ≡ true
 unfolding duplicateOrSelfEdges
 bad-behind [] ys h = h
 bad-behind (x ∷ xs) ys h = rw (bad-behind xs ys h) (or-true (eqb (x .source) (x .destination) || any (joins (x .source) (x .destination)) (xs ++ ys)))
 
-module _ (edges : List ℕ) (n : ℕ) where
+invalid-behind : (n : ℕ) (xs ys : List Edge) → invalid n ys ≡ true → invalid n (xs ++ ys) ≡ true
+invalid-behind n xs ys h =
+    or-cases (any (unknownIdEdge n) ys) (duplicateOrSelfEdges ys) h (λ a. rw (unknown-behind n xs ys a)) (λ b. rw (bad-behind xs ys b) (or-true (any (unknownIdEdge n) (xs ++ ys))))
+
+-- One more in front of valid edges.
+invalid-more : (n : ℕ) (e : Edge) (es : List Edge) → invalid n es ≡ false → invalid n (e ∷ es) ≡ unknownIdEdge n e || route es (e .source) (e .destination)
+unfolding any duplicateOrSelfEdges route
+invalid-more n e es h =
+    rw (or-left (any (unknownIdEdge n) es) (duplicateOrSelfEdges es) h, or-right (any (unknownIdEdge n) es) (duplicateOrSelfEdges es) h, or-false (unknownIdEdge n e), or-false (eqb (e .source) (e .destination) || any (joins (e .source) (e .destination)) es))
+
+-- The edges from i on are passed: none of them is invalid, and they are in the table.
+pub record Passing (edges : List ℕ) (m n i : ℕ) (w : List ℕ) : Type 0 where
+  pub routing : Routing edges m i w
+  pub valid : invalid n (tab (edgeAt edges) i (m - i)) ≡ false
+
+pub passing-start : (edges : List ℕ) (m n : ℕ) → Passing edges m n m (zeroes 64)
+unfolding any duplicateOrSelfEdges
+passing-start edges m n = record { routing = routing-start edges m (zeroes 64) no-routes; valid = rw (tab-none (edgeAt edges) m m (omega arith)) }
+
+module _ (edges : List ℕ) (m n : ℕ) where
   -- One turn: edge i - 1 is met.
-  module _ (i : ℕ) (w u : List ℕ) (r : Bool) (h : 0 < i) (p : Passing edges n i w) (m : SeenOrMarked (edgeAt edges (i - 1)) w u r) where
-    told : duplicateOrSelfEdges (tab (edgeAt edges) (i - 1) (n - (i - 1))) ≡ r
-    unfolding duplicateOrSelfEdges route HasRoute
-    told = rw (tab-step (edgeAt edges) i n h (p .routing .within), p .sound) (or-false _ ∙ sym (m .bad _ (p .routing .routes)))
+  module _ (i : ℕ) (w u : List ℕ) (r : Bool) (h : 0 < i) (p : Passing edges m n i w) (o : InvalidEdge n (edgeAt edges (i - 1)) w u r) where
+    told : invalid n (tab (edgeAt edges) (i - 1) (m - (i - 1))) ≡ r
+    told = rw (tab-step (edgeAt edges) i m h (p .routing .within)) (invalid-more n (edgeAt edges (i - 1)) _ (p .valid) ∙ sym (o .answer _ (p .routing .routes)))
 
-    pub passing-more : r ≡ false → Passing edges n (i - 1) u
-    passing-more e = record { routing = routing-more edges n i w (p .routing) h u (m .marked e); sound = told ∙ e }
+    pub passing-more : r ≡ false → Passing edges m n (i - 1) u
+    passing-more e = record { routing = routing-more edges m i w (p .routing) h u (o .marked e); valid = told ∙ e }
 
-    pub passing-stop : r ≡ true → true ≡ duplicateOrSelfEdges (edgesOf n edges)
-    passing-stop e =
-        let s : i - 1 + (n - (i - 1)) ≡ n = omega (arith, p .routing .within) in
-        let t = rw (s, zero-add) at (tab-split (edgeAt edges) 0 (i - 1) (n - (i - 1))) in
-        sym (ap duplicateOrSelfEdges t ∙ bad-behind (tab (edgeAt edges) 0 (i - 1)) _ (told ∙ e))
+    -- Its destination has a place in the record.
+    pub destination-known : r ≡ false → n ≤ 64 → getD edges (4 * (i - 1) + 1) 0 < 64
+    destination-known e l =
+        destination-below edges (i - 1)
+        (both-low n l (edgeAt edges (i - 1)) (or-left (unknownIdEdge n (edgeAt edges (i - 1))) _ (sym (o .answer _ (p .routing .routes)) ∙ e)))
 
-  pub passing-end : (i : ℕ) (w : List ℕ) → i ≤ 0 → Passing edges n i w → false ≡ duplicateOrSelfEdges (edgesOf n edges)
-  passing-end i w h p = let z : i ≡ 0 = omega arith in sym (rw (tab-whole (edgeAt edges) i n z) at (p .sound))
+    pub passing-stop : r ≡ true → (v x : List ℕ) → InvalidEdges n (edgesOf m edges) v x true
+    passing-stop e v x =
+        let s : i - 1 + (m - (i - 1)) ≡ m = omega (arith, p .routing .within) in
+        let t = rw (s, zero-add) at (tab-split (edgeAt edges) 0 (i - 1) (m - (i - 1))) in
+        record {
+          answer = sym (ap (invalid n) t ∙ invalid-behind n (tab (edgeAt edges) 0 (i - 1)) _ (told ∙ e));
+          records = λ f. absurd (true≢false f);
+        }
+
+  -- All are passed, and all are on record.
+  pub passing-end : (i : ℕ) (w v x y : List ℕ) → i ≤ 0 → Passing edges m n i w → RecordsInbound n [] v x → Recording edges m n x i y → InvalidEdges n (edgesOf m edges) v y false
+  passing-end i w v x y h p q r =
+      let z : i ≡ 0 = omega arith in
+      record {
+        answer = sym (rw (tab-whole (edgeAt edges) i m z) at (p .valid));
+        records = λ f. recording-end edges m n x v i y h q r;
+      }

@@ -10,9 +10,10 @@ ghost use lib.ListN.{length};
 ghost use Rattle.words.specs.Words.{zeroes};
 ghost use Rattle.rules.specs.Base.{any};
 ghost use Rattle.rules.specs.Pending.{joins, route};
-ghost use Rattle.rules.specs.Foreign.{unknownIdEdge, duplicateOrSelfEdges};
+ghost use Rattle.rules.specs.Foreign.{unknownIdEdge};
 ghost use Rattle.records.specs.Records.{edgeAt, edgesOf};
 ghost use Rattle.edges.specs.Routes.{Routes, HasRoute, Marked, SeenOrMarked};
+ghost use Rattle.edges.specs.Invalid.{InvalidEdge, InvalidEdges};
 
 // Whether a route leads from a to b: to itself, or along an edge. Ids are whole words here.
 pub fn has_route(edges: &[u64], count: usize, a: u64, b: u64) -> bool
@@ -40,19 +41,36 @@ fn is_edge(edges: &[u64], i: usize, a: u64, b: u64) -> bool
     edges[4 * i] == a && edges[4 * i + 1] == b
 }
 
-// 11: whether an edge has an end that is not below n.
-pub fn unknown_id_edges(edges: &[u64], count: usize, n: u64) -> bool
-    requires { ⌜ 4 * count ≤ length (now edges) ⌝ }
-    ensures { λ r. ⌜ r ≡ any (unknownIdEdge n) (edgesOf count (now (edges .entry))) ⌝ }
+// 11, of the edges, in one pass from the end, as the rules tell a second edge by those behind it:
+// whether an edge has an end that is not below n, stands twice or leads to its own source. Where none
+// does, `made` has the record of the edges.
+pub fn invalid_edges(edges: &[u64], count: usize, n: u64, made: &mut [u64]) -> bool
+    requires { ⌜ (4 * count ≤ length (now edges)) × (n ≤ 64) × (length (now made) ≡ 256) ⌝ }
+    ensures { λ r. ⌜ InvalidEdges n (edgesOf count (now (edges .entry))) (now (made .entry)) (now (made .exit)) r ⌝ }
 {
-    let mut i: usize = 0;
-    while i < count {
-        if unknown_id_edge(edges, i, n) {
+    let mut seen = [0u64; 64];
+    inbound::reset(made, n as usize);
+    let mut i = count;
+    while 0 < i {
+        i -= 1;
+        if invalid_edge(edges, i, n, &mut seen) {
             return true;
         }
-        i += 1;
+        inbound::lower(edges, i, made);
     }
     false
+}
+
+// Whether edge i has an end that is not below n, leads to its own source or its pair was seen; if
+// none of these, it is seen now.
+fn invalid_edge(edges: &[u64], i: usize, n: u64, seen: &mut [u64]) -> bool
+    requires { ⌜ (4 * i + 4 ≤ length (now edges)) × (n ≤ 64) × (length (now seen) ≡ 64) ⌝ }
+    ensures { λ r. ⌜ InvalidEdge n (edgeAt (now (edges .entry)) i) (now (seen .entry)) (now (seen .exit)) r ⌝ }
+{
+    if unknown_id_edge(edges, i, n) {
+        return true;
+    }
+    seen_or_mark(edges, i, seen)
 }
 
 // Whether edge i has an end that is not below n.
@@ -61,23 +79,6 @@ fn unknown_id_edge(edges: &[u64], i: usize, n: u64) -> bool
     ensures { λ r. ⌜ r ≡ unknownIdEdge n (edgeAt (now (edges .entry)) i) ⌝ }
 {
     n <= edges[4 * i] || n <= edges[4 * i + 1]
-}
-
-// 11: whether an edge stands twice or leads to its own source. From the end, as the rules tell a
-// second edge: by those behind it.
-pub fn duplicate_or_self_edges(edges: &[u64], count: usize) -> bool
-    requires { ⌜ (4 * count ≤ length (now edges)) × (any (unknownIdEdge 64) (edgesOf count (now edges)) ≡ false) ⌝ }
-    ensures { λ r. ⌜ r ≡ duplicateOrSelfEdges (edgesOf count (now (edges .entry))) ⌝ }
-{
-    let mut seen = [0u64; 64];
-    let mut i = count;
-    while 0 < i {
-        i -= 1;
-        if seen_or_mark(edges, i, &mut seen) {
-            return true;
-        }
-    }
-    false
 }
 
 // Whether edge i leads to its own source or its pair was seen; if neither, it is seen now.

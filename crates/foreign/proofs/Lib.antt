@@ -1,4 +1,4 @@
 pub mod Chain
 pub mod Headers
-pub mod Ends
+pub mod Compared
 pub mod Grouped

@@ -6,12 +6,13 @@ use types::MAX_PENDING;
 use types::MAX_PROCESSES;
 use types::SimTime;
 ghost use mathlib.Core.Path.{_≡_};
-ghost use Prim.Native.Nat.{_*_, _≤_};
+ghost use Prim.Native.Nat.{_*_, _≤_, _<_};
 ghost use lib.ListN.{length};
-ghost use Rattle.rules.specs.Base.{anyOf};
+ghost use Rattle.words.specs.Words.{inboundsOf};
+ghost use Rattle.rules.specs.Base.{upTo, any, anyOf};
 ghost use Rattle.rules.specs.Foreign.{horizonIsMax};
 ghost use Rattle.records.specs.Records.{edgesOf, eventsOf};
-ghost use Rattle.foreign.specs.Tests.{sizeTests, countTests, storedIn, runTests, headerTests, edgeTests, pendingTests, batchTests, IsForeign};
+ghost use Rattle.foreign.specs.Tests.{sizeTests, countTests, storedIn, runTests, headerTests, differsAt, edgeTests, pendingTests, batchTests, IsForeign};
 
 // Of the process count and the lookahead.
 fn invalid_size(head: Header) -> bool
@@ -78,15 +79,41 @@ fn invalid_header(head: Header) -> bool
     invalid_run(head)
 }
 
-// Ends first: with all of them below 64, edges are told apart by bits.
-fn invalid_edges(edges: &[u64], count: usize, n: u64) -> bool
-    requires { ⌜ (4 * count ≤ length (now edges)) × (n ≤ 64) ⌝ }
-    ensures { λ r. ⌜ r ≡ anyOf (edgeTests n (edgesOf count (now (edges .entry)))) ⌝ }
+// The pass over the edges makes the record anew, and the state's is held against it.
+fn invalid_edges<'a>(edges: &'a [u64], count: usize, n: u64, processes: &'a [u64]) -> bool
+    requires { ⌜ (4 * count ≤ length (now edges)) × (n ≤ 64) × (length (now processes) ≡ 256) ⌝ }
+    ensures { λ r. ⌜ r ≡ anyOf (edgeTests n (edgesOf count (now (edges .entry))) (inboundsOf n (now (processes .entry)))) ⌝ }
 {
-    if edges::unknown_id_edges(edges, count, n) {
+    let mut made = [0u64; 256];
+    if edges::invalid_edges(edges, count, n, &mut made) {
         return true;
     }
-    edges::duplicate_or_self_edges(edges, count)
+    wrong_record(processes, &made, n as usize)
+}
+
+// Whether one of n processes has another least inbound bound in the one table than in the other.
+fn wrong_record<'a>(processes: &'a [u64], made: &'a [u64], n: usize) -> bool
+    requires { ⌜ (n ≤ 64) × (length (now processes) ≡ 256) × (length (now made) ≡ 256) ⌝ }
+    ensures { λ r. ⌜ r ≡ any (differsAt (now (processes .entry)) (now (made .entry))) (upTo n) ⌝ }
+{
+    let mut p: usize = 0;
+    while p < n {
+        if wrong_tick(processes, made, p) {
+            return true;
+        }
+        p += 1;
+    }
+    false
+}
+
+// The same of process p alone.
+fn wrong_tick<'a>(processes: &'a [u64], made: &'a [u64], p: usize) -> bool
+    requires { ⌜ (p < 64) × (length (now processes) ≡ 256) × (length (now made) ≡ 256) ⌝ }
+    ensures { λ r. ⌜ r ≡ differsAt (now (processes .entry)) (now (made .entry)) p ⌝ }
+{
+    let recorded = words::tick_in(processes, 2 * (64 + p));
+    let least = words::tick_in(made, 2 * (64 + p));
+    !recorded.eq(least)
 }
 
 fn invalid_pending(pending: &[u64], count: usize, n: u64, next: u64) -> bool
@@ -115,15 +142,21 @@ fn invalid_batch(batch: &[u64], count: usize, n: u64) -> bool
 // 11, of every header and all arrays of the right lengths. The local horizons are not read: a state
 // has one for each process by its layout. The header comes first: the walks ask that as many words as
 // it says are there.
-pub fn is_foreign<'a>(head: Header, edges: &'a [u64], pending: &'a [u64], batch: &'a [u64]) -> bool
-    requires { ⌜ (length (now edges) ≡ 2048) × (length (now pending) ≡ 4096) × (length (now batch) ≡ 512) ⌝ }
-    ensures { λ r. ⌜ IsForeign head (now (edges .entry)) (now (pending .entry)) (now (batch .entry)) r ⌝ }
+pub fn is_foreign<'a>(
+    head: Header,
+    edges: &'a [u64],
+    pending: &'a [u64],
+    processes: &'a [u64],
+    batch: &'a [u64],
+) -> bool
+    requires { ⌜ (length (now edges) ≡ 2048) × (length (now pending) ≡ 4096) × (length (now processes) ≡ 256) × (length (now batch) ≡ 512) ⌝ }
+    ensures { λ r. ⌜ IsForeign head (now (edges .entry)) (now (pending .entry)) (now (processes .entry)) (now (batch .entry)) r ⌝ }
 {
     if invalid_header(head) {
         return true;
     }
     let n = head.n as u64;
-    if invalid_edges(edges, head.edges, n) {
+    if invalid_edges(edges, head.edges, n, processes) {
         return true;
     }
     if invalid_pending(pending, head.pending, n, head.next) {

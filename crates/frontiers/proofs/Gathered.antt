@@ -4,7 +4,7 @@ use mathlib.Core.Bool.{true}
 use mathlib.Core.List.{List, [], _∷_, map}
 use Prim.Native.Nat.{ℕ, suc, _-_, _≤_, _<_, min, max}
 use native.Mathlib.Omega.{arith}
-use Rattle.words.specs.Words.{horizonsOf}
+use Rattle.words.specs.Words.{tickOf, ticksIn}
 use Rattle.records.specs.Queue.{eventTicks}
 use Rattle.records.proofs.Placing.{all-at, at-all}
 use Rattle.rules.specs.Base.{Maybe, rising}
@@ -15,7 +15,7 @@ use Rattle.rules.proofs.Tests.{by-test}
 use Rattle.rules.proofs.Lists.{All, all-map, all-both, all-mapped}
 use Rattle.rules.proofs.Shape.{Known}
 use Rattle.rules.proofs.LastBranch.{first-least}
-use Rattle.frontiers.specs.Tables.{tickOf, FirstTicks}
+use Rattle.frontiers.specs.Tables.{FirstTicks}
 use Rattle.frontiers.proofs.RaisingHorizons.{least-min}
 
 -- The least is at most m and each of the numbers, and the largest that is.
@@ -60,12 +60,12 @@ module _ (n horizon : ℕ) (q : List Event) (first : List ℕ) (order : rising b
   ticks = least horizon (eventTicks q)
 
   abbrev entries : ℕ
-  entries = least horizon (horizonsOf n first)
+  entries = least horizon (ticksIn n first)
 
   below-tick : (e : Event) → Known n e × (firstTick q (e .destination) (suc horizon) ≤ e .tick) → entries ≤ e .tick
   unfolding FirstTicks
   below-tick e k =
-      let a : entries ≤ tickOf first (e .destination) = all-at (λ (x : ℕ). entries ≤ x) (tickOf first) 0 n (e .destination) (least-each horizon (horizonsOf n first)) (omega arith) (omega (arith, k .0 .destination)) in
+      let a : entries ≤ tickOf first (e .destination) = all-at (λ (x : ℕ). entries ≤ x) (tickOf first) 0 n (e .destination) (least-each horizon (ticksIn n first)) (omega arith) (omega (arith, k .0 .destination)) in
       omega (arith, a, firsts (e .destination) (k .0 .destination), k .1)
 
   below-ticks : All (λ (e : Event). entries ≤ e .tick) q
@@ -86,15 +86,15 @@ module _ (n horizon : ℕ) (q : List Event) (first : List ℕ) (order : rising b
 
   least-firsts : entries ≡ ticks
   least-firsts =
-      let a : entries ≤ ticks = least-most entries horizon (eventTicks q) (least-cap horizon (horizonsOf n first)) (all-mapped (λ (x : ℕ). entries ≤ x) (λ (e : Event). e .tick) q below-ticks) in
-      let b : ticks ≤ entries = least-most ticks horizon (horizonsOf n first) (least-cap horizon (eventTicks q)) (at-all (λ (x : ℕ). ticks ≤ x) (tickOf first) 0 n (λ p _ l. below-entry p (omega arith))) in
+      let a : entries ≤ ticks = least-most entries horizon (eventTicks q) (least-cap horizon (ticksIn n first)) (all-mapped (λ (x : ℕ). entries ≤ x) (λ (e : Event). e .tick) q below-ticks) in
+      let b : ticks ≤ entries = least-most ticks horizon (ticksIn n first) (least-cap horizon (eventTicks q)) (at-all (λ (x : ℕ). ticks ≤ x) (tickOf first) 0 n (λ p _ l. below-entry p (omega arith))) in
       omega arith
 
-  pub gvt-is : (g : ℕ) (hs : List ℕ) → gvtOf g horizon q hs ≡ max g (min (least (suc horizon) (horizonsOf n first)) (least (suc horizon) hs - 1))
+  pub gvt-is : (g : ℕ) (hs : List ℕ) → gvtOf g horizon q hs ≡ max g (min (least (suc horizon) (ticksIn n first)) (least (suc horizon) hs - 1))
   unfolding gvtOf
   gvt-is g hs =
       let a : least ticks (map (λ h. h - 1) hs) ≡ min ticks (least (suc horizon) hs - 1) = least-before ticks (suc horizon) hs (omega (arith, least-cap horizon (eventTicks q))) in
       let c : min (suc horizon) horizon ≡ horizon = omega arith in
-      let b : entries ≡ min (least (suc horizon) (horizonsOf n first)) horizon = rw c at (least-min (suc horizon) horizon (horizonsOf n first)) in
-      let x : least ticks (map (λ h. h - 1) hs) ≡ min (least (suc horizon) (horizonsOf n first)) (least (suc horizon) hs - 1) = omega (arith, a, b, least-firsts, least-cap (suc horizon) hs) in
+      let b : entries ≡ min (least (suc horizon) (ticksIn n first)) horizon = rw c at (least-min (suc horizon) horizon (ticksIn n first)) in
+      let x : least ticks (map (λ h. h - 1) hs) ≡ min (least (suc horizon) (ticksIn n first)) (least (suc horizon) hs - 1) = omega (arith, a, b, least-firsts, least-cap (suc horizon) hs) in
       ap (max g) x

@@ -1,7 +1,7 @@
 -- Bounds rise, from the last edge to the first.
 use mathlib.Core.Path.{_≡_, refl, sym, ap, _∙_}
 use mathlib.Core.Bool.{Bool, true, false}
-use mathlib.Core.List.{List, _∷_}
+use mathlib.Core.List.{List, [], _∷_}
 use Prim.Native.Nat.{ℕ, zero, suc, _+_, _-_, _*_, _≤_, _<_, max}
 use native.Mathlib.Nat.{add-comm}
 use native.Mathlib.Omega.{arith}
@@ -10,17 +10,18 @@ use lib.ListN.{length, getD}
 use borrow.Author.Tests.{lt-ltb, le-ltb}
 use Rattle.types.specs.declared.SimTime.{SimTime}
 use Rattle.types.specs.Value.{ticksOf}
-use Rattle.words.specs.Words.{tab, tickAt, putTick, RaisesTick}
+use Rattle.words.specs.Words.{tab, tickAt, tickOf, putTick, RaisesTick}
 use Rattle.words.proofs.Tab.{tab-cong, tab-step, tab-none, tab-whole, Pass, pass-start, pass-more, pass-end}
 use Rattle.words.proofs.Ticks.{by-rise}
-use Rattle.records.specs.Records.{edgeAt}
+use Rattle.records.specs.Records.{edgeAt, edgesOf}
 use Rattle.records.proofs.Stored.{bound-same, bound-other}
 use Rattle.rules.specs.Base.{if_then_else_}
 use Rattle.rules.specs.State.{Edge, State}
 use Rattle.rules.specs.Step.{raisedEdges, countRaised}
 use Rattle.rules.proofs.Tests.{by-test, not-both}
-use Rattle.frontiers.specs.Tables.{tickOf}
-use Rattle.frontiers.specs.Rises.{raisedEdge, RaisedEdge, Bounds, RaisedEdges, Sources}
+use Rattle.inbound.specs.Inbound.{LowersInbound, RecordsInbound, Destinations}
+use Rattle.inbound.proofs.Recording.{Recording, recording-start, recording-more, recording-end}
+use Rattle.frontiers.specs.Rises.{raisedEdge, RaisedEdge, Bounds, RaisedEdges, RaisesBounds, Sources}
 
 abbrev oneIf : Bool → ℕ
 oneIf b = if b then 1 else 0
@@ -37,6 +38,10 @@ one-false b e = rw e
 edge-from : (w : List ℕ) (i : ℕ) → edgeAt w i .source ≡ getD w (4 * i) 0
 unfolding edgeAt
 edge-from w i = refl
+
+edge-to : (w : List ℕ) (i : ℕ) → edgeAt w i .destination ≡ getD w (4 * i + 1) 0
+unfolding edgeAt
+edge-to w i = refl
 
 edge-bound : (w : List ℕ) (i : ℕ) → edgeAt w i .bound ≡ tickAt w (4 * i + 2)
 unfolding edgeAt
@@ -135,3 +140,38 @@ module _ (m : ℕ) (bounds w₀ : List ℕ) where
         edges = λ n s H c a. pass-end edgeAt liftedAt m i w₀ w z (f .pass) ∙ sym (edges-tab n s H bounds a (edgeAt w₀) 0 m (λ k x y. c k (omega arith)));
         counted = f .counted ∙ rw (tab-whole (edgeAt w₀) i m z, tab-whole (edgeAt w) i m z);
       }
+
+-- Each edge goes on record when its bound is raised: the record is that of the raised edges.
+module _ (m n : ℕ) (bounds w₀ p₀ : List ℕ) where
+  pub record Raising (i : ℕ) (w p : List ℕ) (r : ℕ) : Type 0 where
+    pub lifting : Lifting m bounds w₀ i w r
+    pub recording : Recording w m n p₀ i p
+
+  pub raising-start : (v : List ℕ) → RecordsInbound n [] v p₀ → Raising m w₀ p₀ 0
+  raising-start v q = record { lifting = lifting-start m bounds w₀; recording = recording-start w₀ m n p₀ v q }
+
+  -- Raising one edge leaves those behind it on record.
+  still-recorded : (i : ℕ) (w u p : List ℕ) (q : ℕ) → 0 < i → Recording w m n p₀ i p → RaisedEdge (i - 1) bounds w u q → Recording u m n p₀ i p
+  still-recorded i w u p q h r l =
+      let same : tab (edgeAt u) i (m - i) ≡ tab (edgeAt w) i (m - i) = tab-cong _ _ i (m - i) (λ k x y. l .others k (λ z. omega arith)) in
+      record { within = r .within; records = rw same (r .records) }
+
+  pub raising-more : (i : ℕ) (w u p v : List ℕ) (r q : ℕ) → 0 < i → Raising i w p r → RaisedEdge (i - 1) bounds w u q → LowersInbound (edgeAt u (i - 1)) p v → Raising (i - 1) u v (r + q)
+  raising-more i w u p v r q h f l s = record {
+    lifting = lifting-more m bounds w₀ i w u r q h (f .lifting) l;
+    recording = recording-more u m n p₀ i p v h (still-recorded i w u p q h (f .recording) l) s;
+  }
+
+  pub raising-end : (v : List ℕ) (i : ℕ) (w p : List ℕ) (r : ℕ) → i ≤ 0 → RecordsInbound n [] v p₀ → Raising i w p r → RaisesBounds m n bounds w₀ v w p r
+  raising-end v i w p r o q f = record { raised = lifting-end m bounds w₀ i w r o (f .lifting); recorded = recording-end w m n p₀ v i p o q (f .recording) }
+
+  pub source-of : (i : ℕ) (w p : List ℕ) (r : ℕ) → 0 < i → Raising i w p r → Sources 64 m w₀ → getD w (4 * (i - 1)) 0 < 64
+  source-of i w p r h f s = source-at m bounds w₀ i w r h (f .lifting) s
+
+  -- The edge that was just raised leads where it led.
+  pub destination-of : (i : ℕ) (w u p : List ℕ) (r q : ℕ) → 0 < i → Raising i w p r → RaisedEdge (i - 1) bounds w u q → Destinations 64 m w₀ → getD u (4 * (i - 1) + 1) 0 < 64
+  unfolding Destinations raisedEdge
+  destination-of i w u p r q h f l d =
+      let a : edgeAt u (i - 1) .destination ≡ edgeAt w (i - 1) .destination = ap (λ (x : Edge). x .destination) (l .here) in
+      let b : edgeAt w (i - 1) .destination ≡ edgeAt w₀ (i - 1) .destination = ap (λ (x : Edge). x .destination) (f .lifting .pass .ahead (i - 1) (omega arith)) in
+      rw (← edge-to u (i - 1), a, b) (d (i - 1) (omega (arith, f .lifting .within)))

@@ -1,8 +1,8 @@
-// Frontiers and first pending ticks of all processes, the lesser of the two for each, and what an
-// advance raises, each in one pass over flat words.
+// First pending ticks of all processes, the lesser of frontier and first tick for each, and what an
+// advance raises, each in one pass over flat words. Frontiers are read from the record (crate inbound).
 //
-// A table has room for a tick of each of 64 processes, two words each, and holds those of the n that
-// there are. These are leaves: each asks that the words it touches are there.
+// A table of first ticks or new bounds has room for a tick of each of 64 processes, two words each, and
+// holds those of the n that there are. These are leaves: each asks that the words it touches are there.
 use types::Added;
 use types::SimDuration;
 use types::SimTime;
@@ -11,34 +11,10 @@ ghost use Prim.Native.Nat.{_+_, _*_, _<_, _≤_};
 ghost use lib.ListN.{length, getD};
 ghost use Rattle.types.specs.Value.{ticksOf, durationOf};
 ghost use Rattle.records.specs.Records.{edgeAt, edgesOf, eventAt, eventsOf};
-ghost use Rattle.frontiers.specs.Tables.{SafeFrontiers, LowersFrontier, FirstTicks, FirstTickSet, capped};
-ghost use Rattle.frontiers.specs.Rises.{RaisedEdge, RaisedEdges, Sources, Destinations};
+ghost use Rattle.frontiers.specs.Tables.{FirstTicks, FirstTickSet, capped};
+ghost use Rattle.frontiers.specs.Rises.{RaisedEdge, CanRaise, RaisesBounds};
 ghost use mathlib.Core.Bool.{_||_};
 ghost use Rattle.frontiers.specs.InputFrontiers.{RaisedHorizon, RaisedHorizons, NewBounds, Eligible};
-
-// safe(p) of n processes: the least of H and the bounds of the edges into p.
-pub fn compute_safe_frontiers(edges: &[u64], count: usize, n: usize, top: SimTime, safe: &mut [u64])
-    requires { ⌜ (4 * count ≤ length (now edges)) × (n ≤ 64) × (length (now safe) ≡ 128) × Destinations 64 count (now edges) ⌝ }
-    ensures { λ _. ⌜ SafeFrontiers n (edgesOf count (now (edges .entry))) (ticksOf top) (now (safe .exit)) ⌝ }
-{
-    words::fill(safe, n, top);
-    let mut i: usize = 0;
-    while i < count {
-        lower_frontier(edges, i, safe);
-        i += 1;
-    }
-}
-
-// The frontier of edge i's destination falls to the edge's bound, if that is lower.
-fn lower_frontier(edges: &[u64], i: usize, safe: &mut [u64])
-    requires { ⌜ (4 * i + 4 ≤ length (now edges)) × (length (now safe) ≡ 128) × (getD (now edges) (4 * i + 1) 0 < 64) ⌝ }
-    ensures { λ _. ⌜ LowersFrontier (edgeAt (now (edges .entry)) i) (now (safe .entry)) (now (safe .exit)) ⌝ }
-{
-    let to = edges[4 * i + 1];
-    let at = (2 * to) as usize;
-    let bound = words::tick_in(edges, 4 * i + 2);
-    words::lower_tick(safe, at, bound);
-}
 
 // The first pending tick of n processes, or `none`. From the end: the first is what stays.
 pub fn first_ticks(pending: &[u64], count: usize, n: usize, none: SimTime, first: &mut [u64])
@@ -77,16 +53,25 @@ pub fn advanced_bound(frontier: SimTime, lookahead: SimDuration, top: SimTime) -
     }
 }
 
-// Each bound rises to what the table says of the edge's source; how many did.
-pub fn raise_bounds(edges: &mut [u64], count: usize, bounds: &[u64]) -> usize
-    requires { ⌜ (count ≤ 512) × (4 * count ≤ length (now edges)) × (length (now bounds) ≡ 128) × Sources 64 count (now edges) ⌝ }
-    ensures { λ r. ⌜ RaisedEdges count (now (bounds .entry)) (now (edges .entry)) (now (edges .exit)) r ⌝ }
+// Each bound rises to what the table says of the edge's source; how many did. The record is made anew
+// on the way, of the bounds as they are then: no frontier is read any more.
+pub fn raise_bounds(
+    edges: &mut [u64],
+    count: usize,
+    bounds: &[u64],
+    n: usize,
+    processes: &mut [u64],
+) -> usize
+    requires { ⌜ CanRaise count n (now edges) (now bounds) (now processes) ⌝ }
+    ensures { λ r. ⌜ RaisesBounds count n (now (bounds .entry)) (now (edges .entry)) (now (processes .entry)) (now (edges .exit)) (now (processes .exit)) r ⌝ }
 {
+    inbound::reset(processes, n);
     let mut raised: usize = 0;
     let mut i = count;
     while 0 < i {
         i -= 1;
         raised += raise_bound(edges, i, bounds);
+        inbound::lower(edges, i, processes);
     }
     raised
 }
@@ -122,15 +107,9 @@ pub struct Raised {
 
 // The local horizons of n processes rise to the lesser of frontier and first pending tick. The least
 // are sought from H down.
-pub fn raise_horizons<'a>(
-    horizons: &mut [u64],
-    n: usize,
-    safe: &'a [u64],
-    first: &'a [u64],
-    top: SimTime,
-) -> Raised
-    requires { ⌜ (n ≤ 64) × (length (now horizons) ≡ 128) × (length (now safe) ≡ 128) × (length (now first) ≡ 128) ⌝ }
-    ensures { λ r. ⌜ RaisedHorizons n (now (safe .entry)) (now (first .entry)) (ticksOf top) (now (horizons .entry)) (now (horizons .exit)) r ⌝ }
+pub fn raise_horizons(processes: &mut [u64], n: usize, first: &[u64], top: SimTime) -> Raised
+    requires { ⌜ (n ≤ 64) × (length (now processes) ≡ 256) × (length (now first) ≡ 128) ⌝ }
+    ensures { λ r. ⌜ RaisedHorizons n (now (first .entry)) (ticksOf top) (now (processes .entry)) (now (processes .exit)) r ⌝ }
 {
     let mut r = Raised {
         tick: top,
@@ -140,26 +119,26 @@ pub fn raise_horizons<'a>(
     let mut left = n;
     while 0 < left {
         left -= 1;
-        r = raise_horizon(horizons, left, safe, first, r);
+        r = raise_horizon(processes, left, first, top, r);
     }
     r
 }
 
 // The local horizon of process i rises, or stays; what was found before goes on.
-fn raise_horizon<'a>(
-    horizons: &mut [u64],
+fn raise_horizon(
+    processes: &mut [u64],
     i: usize,
-    safe: &'a [u64],
-    first: &'a [u64],
+    first: &[u64],
+    top: SimTime,
     found: Raised,
 ) -> Raised
-    requires { ⌜ (i < 64) × (length (now horizons) ≡ 128) × (length (now safe) ≡ 128) × (length (now first) ≡ 128) ⌝ }
-    ensures { λ r. ⌜ RaisedHorizon i (now (safe .entry)) (now (first .entry)) found (now (horizons .entry)) (now (horizons .exit)) r ⌝ }
+    requires { ⌜ (i < 64) × (length (now processes) ≡ 256) × (length (now first) ≡ 128) ⌝ }
+    ensures { λ r. ⌜ RaisedHorizon i (now (first .entry)) (ticksOf top) found (now (processes .entry)) (now (processes .exit)) r ⌝ }
 {
-    let front = words::tick_in(safe, 2 * i);
+    let front = inbound::frontier(processes, i, top);
     let tick = words::tick_in(first, 2 * i);
-    let rose = words::raise_tick(horizons, 2 * i, front.min(tick));
-    let horizon = words::tick_in(horizons, 2 * i);
+    let rose = words::raise_tick(processes, 2 * i, front.min(tick));
+    let horizon = words::tick_in(processes, 2 * i);
     let least_tick = found.tick;
     let least = found.horizon;
     Raised {
@@ -169,30 +148,41 @@ fn raise_horizon<'a>(
     }
 }
 
-// What the bounds of the edges from each of n processes rise to: the table of frontiers becomes that
+// What the bounds of the edges from each of n processes rise to: the table of first ticks becomes that
 // of new bounds.
-pub fn new_bounds(safe: &mut [u64], first: &[u64], n: usize, lookahead: SimDuration, top: SimTime)
-    requires { ⌜ (n ≤ 64) × (length (now safe) ≡ 128) × (length (now first) ≡ 128) ⌝ }
-    ensures { λ _. ⌜ NewBounds n (durationOf lookahead) (ticksOf top) (now (safe .entry)) (now (first .entry)) (now (safe .exit)) ⌝ }
+pub fn new_bounds(
+    processes: &[u64],
+    first: &mut [u64],
+    n: usize,
+    lookahead: SimDuration,
+    top: SimTime,
+)
+    requires { ⌜ (n ≤ 64) × (length (now processes) ≡ 256) × (length (now first) ≡ 128) ⌝ }
+    ensures { λ _. ⌜ NewBounds n (durationOf lookahead) (ticksOf top) (now (processes .entry)) (now (first .entry)) (now (first .exit)) ⌝ }
 {
     let mut p = n;
     while 0 < p {
         p -= 1;
-        let front = words::tick_in(safe, 2 * p);
+        let front = inbound::frontier(processes, p, top);
         let tick = words::tick_in(first, 2 * p);
         let bound = advanced_bound(front.min(tick), lookahead, top);
-        words::put_tick(safe, 2 * p, bound);
+        words::put_tick(first, 2 * p, bound);
     }
 }
 
 // Whether an event is eligible: the first pending tick of one of n processes is below its frontier.
-pub fn has_eligible_event<'a>(safe: &'a [u64], first: &'a [u64], n: usize) -> bool
-    requires { ⌜ (n ≤ 64) × (length (now safe) ≡ 128) × (length (now first) ≡ 128) ⌝ }
-    ensures { λ r. ⌜ Eligible n (now (safe .entry)) (now (first .entry)) r ⌝ }
+pub fn has_eligible_event<'a>(
+    processes: &'a [u64],
+    first: &'a [u64],
+    n: usize,
+    top: SimTime,
+) -> bool
+    requires { ⌜ (n ≤ 64) × (length (now processes) ≡ 256) × (length (now first) ≡ 128) ⌝ }
+    ensures { λ r. ⌜ Eligible n (ticksOf top) (now (processes .entry)) (now (first .entry)) r ⌝ }
 {
     let mut p: usize = 0;
     while p < n {
-        let front = words::tick_in(safe, 2 * p);
+        let front = inbound::frontier(processes, p, top);
         let tick = words::tick_in(first, 2 * p);
         if tick.lt(front) {
             return true;

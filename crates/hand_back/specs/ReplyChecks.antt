@@ -2,13 +2,15 @@
 use mathlib.Core.Path.{_≡_}
 use mathlib.Core.Bool.{true, false}
 use mathlib.Core.List.{List}
-use Prim.Native.Nat.{ℕ, _*_, _/_, _≤_}
+use Prim.Native.Nat.{ℕ, _*_, _/_, _^_, _-_, _≤_, _<_}
+use lib.Dec.{leb}
 use lib.ListN.{length}
+use Rattle.types.specs.Value.{ticksOf}
 use Rattle.records.specs.Records.{edgesOf, eventsOf, Owners}
-use Rattle.rules.specs.Base.{any}
+use Rattle.rules.specs.Base.{any, rising}
+use Rattle.rules.specs.Pending.{before}
 use Rattle.rules.specs.HandBack.{Emission}
 use Rattle.rules.specs.Foreign.{unknownIdEdge}
-use Rattle.edges.specs.Routes.{Routes}
 use Rattle.reply_words.specs.Emissions.{emissionsOf}
 use Rattle.reply_words.specs.Replies.{Places, failedNotInBatch}
 use Rattle.hand_back_check.specs.declared.ReplyCheck.{ReplyCheck}
@@ -40,7 +42,7 @@ pub record Passed (h : Header) : Type 0 where
 abbrev pub EarlyRows : Header → Answer → Type 0
 EarlyRows h a = RefusalOr a (Passed h) ((c : Counters) (mask : ℕ) (xs : List Emission) (E P Z B : List ℕ) → ValidArrays h E P Z B → HandsBack h c E P Z B mask xs (record { answer = a; head = h; counters = c }) P Z B)
 
--- What the tables are made of, in a state that 11 let pass.
+-- What the tables of routes and places are made of, in a state that 11 let pass.
 pub record Ready (h : Header) (edges batch : List ℕ) : Type 0 where
   pub few : h .n ≤ 64
   pub few-batch : h .batch ≤ 64
@@ -49,27 +51,35 @@ pub record Ready (h : Header) (edges batch : List ℕ) : Type 0 where
   pub batch-words : 8 * h .batch ≤ length batch
   pub owners : Owners (h .batch) batch
 
--- 12, 25 and 26 of the mask let the reply pass: its check starts, with the tables R of routes and T of places.
-pub record Started (h : Header) (edges batch : List ℕ) (mask : ℕ) (a : ReplyCheck) (R T : List ℕ) : Type 0 where
+-- 12, 25 and 26 of the mask let the reply pass: its check starts, with the table T of places.
+pub record Started (h : Header) (batch : List ℕ) (mask : ℕ) (a : ReplyCheck) (T : List ℕ) : Type 0 where
   pub passed : Passed h
   pub known : failedNotInBatch (eventsOf (h .batch) batch) mask ≡ false
   pub start : a ≡ startOf mask (firstFailed mask (eventsOf (h .batch) batch))
-  pub routes : Routes (edgesOf (h .edges) edges) R
-  pub route-words : length R ≡ 64
   pub places : Places (eventsOf (h .batch) batch) T
   pub place-words : length T ≡ 64
 
 -- Or one of them refuses, whatever is emitted.
-pub record Begins (h : Header) (edges batch : List ℕ) (mask : ℕ) (a : ReplyCheck) (R T : List ℕ) : Type 0 where
-  pub refused : a .going ≡ false → (c : Counters) (xs : List Emission) (P Z : List ℕ) → ValidArrays h edges P Z batch → HandsBack h c edges P Z batch mask xs (asGivenTo h c a) P Z batch
-  pub started : a .going ≡ true → Started h edges batch mask a R T
+pub record Begins (h : Header) (batch : List ℕ) (mask : ℕ) (a : ReplyCheck) (T : List ℕ) : Type 0 where
+  pub refused : a .going ≡ false → (c : Counters) (xs : List Emission) (E P Z : List ℕ) → ValidArrays h E P Z batch → HandsBack h c E P Z batch mask xs (asGivenTo h c a) P Z batch
+  pub started : a .going ≡ true → Started h batch mask a T
 
 -- The emissions xs are checked: the call is refused with all as given, or its round is queued or lost.
-pub record ChecksReply (h : Header) (edges horizons batch : List ℕ) (mask : ℕ) (xs : List Emission) (a : ReplyCheck) : Type 0 where
-  pub refused : a .going ≡ false → (c : Counters) (P : List ℕ) → ValidArrays h edges P horizons batch → HandsBack h c edges P horizons batch mask xs (asGivenTo h c a) P horizons batch
+pub record ChecksReply (h : Header) (edges processes batch : List ℕ) (mask : ℕ) (xs : List Emission) (a : ReplyCheck) : Type 0 where
+  pub refused : a .going ≡ false → (c : Counters) (P : List ℕ) → ValidArrays h edges P processes batch → HandsBack h c edges P processes batch mask xs (asGivenTo h c a) P processes batch
   pub passed : a .going ≡ true → Passed h
-  pub checked : a .going ≡ true → (P : List ℕ) → ReplyChecked h edges P horizons batch a mask (length xs) xs
+  pub checked : a .going ≡ true → (P : List ℕ) → ReplyChecked h edges P processes batch a mask (length xs) xs
 
--- What is left is what the rules' hand back of these emissions leaves.
-unfoldable pub Commits : Header → Counters → List ℕ → List ℕ → List ℕ → List ℕ → ReplyCheck → List Emission → CoreResult → List ℕ → List ℕ → List ℕ → Type 0
-Commits h c E Q Z B a xs r Q′ Z′ B′ = (mask : ℕ) → ReplyChecked h E Q Z B a mask (length xs) xs → HandsBack h c E Q Z B mask xs r Q′ Z′ B′
+-- What the end of a reply asks of the header and of what it is lent: a batch in hand, in a state that 11 let pass.
+pub record CanCommit (h : Header) (pending processes batch : List ℕ) : Type 0 where
+  pub few : h .n ≤ 64
+  pub pending-words : length pending ≡ 4096
+  pub process-words : length processes ≡ 256
+  pub batch-words : 8 * h .batch ≤ length batch
+  pub ordered : rising before (eventsOf (h .pending) pending) ≡ true
+  pub newest : any (λ e. leb (h .next) (e .sequence)) (eventsOf (h .pending) pending) ≡ false
+  pub horizon : ticksOf (h .horizon) < 2 ^ 128 - 1
+
+-- What is left is what the rules' hand back of these emissions leaves, whatever the edges are.
+unfoldable pub Commits : Header → Counters → List ℕ → List ℕ → List ℕ → ReplyCheck → List Emission → CoreResult → List ℕ → List ℕ → List ℕ → Type 0
+Commits h c Q Z B a xs r Q′ Z′ B′ = (E : List ℕ) (mask : ℕ) → InHand h E Q Z B → ReplyChecked h E Q Z B a mask (length xs) xs → HandsBack h c E Q Z B mask xs r Q′ Z′ B′

@@ -7,14 +7,14 @@ use state::CoreResult;
 use state::Counters;
 use state::Header;
 ghost use mathlib.Core.Path.{_≡_};
-ghost use Prim.Native.Nat.{_/_};
+ghost use Prim.Native.Nat.{_*_, _/_, _≤_};
 ghost use lib.ListN.{length};
 ghost use Rattle.words.specs.Words.{zeroes};
+ghost use Rattle.records.specs.Records.{Owners};
 ghost use Rattle.reply_words.specs.Emissions.{emissionsOf};
 ghost use Rattle.state.specs.ValidArrays.{ValidArrays};
 ghost use Rattle.hand_back_commit.specs.HandsBack.{HandsBack};
-ghost use Rattle.hand_back_commit.specs.Commits.{InHand};
-ghost use Rattle.hand_back.specs.ReplyChecks.{repliedOf, EarlyRows, Ready, Begins, ChecksReply, asGivenTo, Commits};
+ghost use Rattle.hand_back.specs.ReplyChecks.{repliedOf, EarlyRows, Ready, Begins, ChecksReply, asGivenTo, CanCommit, Commits};
 
 // Rows 12 and 25.
 fn refusal(head: Header) -> Answer
@@ -29,17 +29,10 @@ fn refusal(head: Header) -> Answer
     Answer::Accepted
 }
 
-// Rows 12 and 25, and 26 of the mask; where none refuses, the tables for the emissions are made.
-pub fn begin_check<'a>(
-    head: Header,
-    edges: &'a [u64],
-    batch: &'a [u64],
-    mask: u64,
-    routes: &mut [u64],
-    places: &mut [u64],
-) -> ReplyCheck
-    requires { ⌜ Ready head (now edges) (now batch) × (now routes ≡ zeroes 64) × (now places ≡ zeroes 64) ⌝ }
-    ensures { λ r. ⌜ Begins head (now (edges .entry)) (now (batch .entry)) mask r (now (routes .exit)) (now (places .exit)) ⌝ }
+// Rows 12 and 25, and 26 of the mask; where none refuses, the place of each process's event is found.
+pub fn begin_check(head: Header, batch: &[u64], mask: u64, places: &mut [u64]) -> ReplyCheck
+    requires { ⌜ (head .batch ≤ 64) × (8 * head .batch ≤ length (now batch)) × Owners (head .batch) (now batch) × (now places ≡ zeroes 64) ⌝ }
+    ensures { λ r. ⌜ Begins head (now (batch .entry)) mask r (now (places .exit)) ⌝ }
 {
     let failed = hand_back_check::first_failed(batch, head.batch, mask);
     let start = hand_back_check::start(mask, failed);
@@ -51,34 +44,39 @@ pub fn begin_check<'a>(
     if reply_words::failed_not_in_batch(mask, places) {
         return hand_back_check::refuse(start, Answer::MalformedReply);
     }
-    edges::find_routes(edges, head.edges, routes);
     start
 }
 
-// The check of a reply in words.
+// The check of a reply in words. Edges are read for emissions alone: a reply without any does not walk
+// them.
 fn check_reply<'a>(
     head: Header,
     edges: &'a [u64],
-    horizons: &'a [u64],
+    processes: &'a [u64],
     batch: &'a [u64],
     mask: u64,
     reply: &'a [u64],
 ) -> ReplyCheck
-    requires { ⌜ Ready head (now edges) (now batch) × (length (now horizons) ≡ 128) × (length (now batch) ≡ 512) ⌝ }
-    ensures { λ r. ⌜ ChecksReply head (now (edges .entry)) (now (horizons .entry)) (now (batch .entry)) mask (repliedOf (now (reply .entry))) r ⌝ }
+    requires { ⌜ Ready head (now edges) (now batch) × (length (now processes) ≡ 256) × (length (now batch) ≡ 512) ⌝ }
+    ensures { λ r. ⌜ ChecksReply head (now (edges .entry)) (now (processes .entry)) (now (batch .entry)) mask (repliedOf (now (reply .entry))) r ⌝ }
 {
-    let mut routes = [0u64; 64];
     let mut places = [0u64; 64];
-    let start = begin_check(head, edges, batch, mask, &mut routes, &mut places);
+    let start = begin_check(head, batch, mask, &mut places);
+    let count = reply.len() / 8;
+    if !start.going || count == 0 {
+        return start;
+    }
+    let mut routes = [0u64; 64];
+    edges::find_routes(edges, head.edges, &mut routes);
     hand_back_check::check_words(
         head,
         &routes,
         &places,
-        horizons,
+        processes,
         batch,
         start,
         reply,
-        reply.len() / 8,
+        count,
     )
 }
 
@@ -96,18 +94,17 @@ fn as_given(head: Header, counters: Counters, check: ReplyCheck) -> CoreResult
 }
 
 // A reply that is not malformed: its round is queued and ended, or lost.
-fn commit<'a>(
+fn commit(
     head: Header,
     counters: Counters,
-    edges: &'a [u64],
     pending: &mut [u64],
-    horizons: &mut [u64],
+    processes: &mut [u64],
     batch: &mut [u64],
     check: ReplyCheck,
-    reply: &'a [u64],
+    reply: &[u64],
 ) -> CoreResult
-    requires { ⌜ InHand head (now edges) (now pending) (now horizons) (now batch) ⌝ }
-    ensures { λ r. ⌜ Commits head counters (now (edges .entry)) (now (pending .entry)) (now (horizons .entry)) (now (batch .entry)) check (repliedOf (now (reply .entry))) r (now (pending .exit)) (now (horizons .exit)) (now (batch .exit)) ⌝ }
+    requires { ⌜ CanCommit head (now pending) (now processes) (now batch) ⌝ }
+    ensures { λ r. ⌜ Commits head counters (now (pending .entry)) (now (processes .entry)) (now (batch .entry)) check (repliedOf (now (reply .entry))) r (now (pending .exit)) (now (processes .exit)) (now (batch .exit)) ⌝ }
 {
     let emitted = reply.len() / 8;
     let verdict = hand_back_commit::final_check(check, head.next, head.pending, emitted);
@@ -120,9 +117,8 @@ fn commit<'a>(
         return hand_back_commit::commit_round(
             head,
             counters,
-            edges,
             pending,
-            horizons,
+            processes,
             batch,
             check.remote,
             emitted,
@@ -138,26 +134,17 @@ pub fn hand_back<'a>(
     counters: Counters,
     edges: &'a [u64],
     pending: &mut [u64],
-    horizons: &mut [u64],
+    processes: &mut [u64],
     batch: &mut [u64],
     mask: u64,
     reply: &'a [u64],
 ) -> CoreResult
-    requires { ⌜ ValidArrays head (now edges) (now pending) (now horizons) (now batch) ⌝ }
-    ensures { λ r. ⌜ HandsBack head counters (now (edges .entry)) (now (pending .entry)) (now (horizons .entry)) (now (batch .entry)) mask (emissionsOf (length (now (reply .entry)) / 8) (now (reply .entry))) r (now (pending .exit)) (now (horizons .exit)) (now (batch .exit)) ⌝ }
+    requires { ⌜ ValidArrays head (now edges) (now pending) (now processes) (now batch) ⌝ }
+    ensures { λ r. ⌜ HandsBack head counters (now (edges .entry)) (now (pending .entry)) (now (processes .entry)) (now (batch .entry)) mask (emissionsOf (length (now (reply .entry)) / 8) (now (reply .entry))) r (now (pending .exit)) (now (processes .exit)) (now (batch .exit)) ⌝ }
 {
-    let check = check_reply(head, edges, horizons, batch, mask, reply);
+    let check = check_reply(head, edges, processes, batch, mask, reply);
     if !check.going {
         return as_given(head, counters, check);
     }
-    commit(
-        head,
-        counters,
-        edges,
-        pending,
-        horizons,
-        batch,
-        check,
-        reply,
-    )
+    commit(head, counters, pending, processes, batch, check, reply)
 }

@@ -108,7 +108,7 @@ module _ (h : Header) (R T Z B : List ℕ) (a : ReplyCheck) (e : Emission) where
           rw same (s .place-words, s .batch-words, emitter-fits, omega (arith, seat), omega (arith, p .0, s .few-batch))
 
       pub judgeable : CanCheck h R Z × (lpIdOf (e .emitter) < 64)
-      judgeable = (record { few = s .few; route-words = s .route-words; horizon-words = s .horizon-words }, emitter-fits)
+      judgeable = (record { few = s .few; route-words = s .route-words; process-words = s .process-words }, emitter-fits)
 
       module _ (m : ℕ) (c : m ≡ counted (a .remote) (emissionOf e)) where
         next : (v : CheckResult) → NextResult h R Z (firstTick q (lpIdOf (e .emitter)) 0) a e v → (r : ReplyCheck) → r ≡ checkedAs a w m v → Checks h R T Z B a e r

@@ -24,13 +24,13 @@ use Rattle.state.specs.View.{view}
 use Rattle.hand_back_check.specs.declared.ReplyCheck.{ReplyCheck}
 use Rattle.hand_back_check.specs.EmissionRows.{lastOf, counted, rowsOfNext, rowsUpTo}
 
--- What a check asks: the tables of routes R and places T, the words of the local horizons Z and of the batch B are there, and T is of the batch.
+-- What a check asks: the tables of routes R and places T, the table of the processes Z and the words of the batch B are there, and T is of the batch.
 pub record Checkable (h : Header) (R T Z B : List ℕ) : Type 0 where
   pub few : h .n ≤ 64
   pub few-batch : h .batch ≤ 64
   pub route-words : length R ≡ 64
   pub place-words : length T ≡ 64
-  pub horizon-words : length Z ≡ 128
+  pub process-words : length Z ≡ 256
   pub batch-words : length B ≡ 512
   pub places : Places (eventsOf (h .batch) B) T
 

@@ -115,13 +115,13 @@ pub fn check<'a>(
     head: Header,
     routes: &'a [u64],
     places: &'a [u64],
-    horizons: &'a [u64],
+    processes: &'a [u64],
     batch: &'a [u64],
     a: ReplyCheck,
     e: Emission,
 ) -> ReplyCheck
-    requires { ⌜ (a .going ≡ true → Checkable head (now routes) (now places) (now horizons) (now batch)) ⌝ }
-    ensures { λ r. ⌜ Checks head (now (routes .entry)) (now (places .entry)) (now (horizons .entry)) (now (batch .entry)) a e r ⌝ }
+    requires { ⌜ (a .going ≡ true → Checkable head (now routes) (now places) (now processes) (now batch)) ⌝ }
+    ensures { λ r. ⌜ Checks head (now (routes .entry)) (now (places .entry)) (now (processes .entry)) (now (batch .entry)) a e r ⌝ }
 {
     if !a.going {
         return a;
@@ -139,7 +139,7 @@ pub fn check<'a>(
         return checked(a, emitter, remote, so_far);
     }
     let time = tick_of(places, batch, emitter);
-    let verdict = hand_back_emission::check_emission(head, routes, horizons, e, time);
+    let verdict = hand_back_emission::check_emission(head, routes, processes, e, time);
     checked(a, emitter, remote, verdict)
 }
 
@@ -148,20 +148,20 @@ pub fn check_words<'a>(
     head: Header,
     routes: &'a [u64],
     places: &'a [u64],
-    horizons: &'a [u64],
+    processes: &'a [u64],
     batch: &'a [u64],
     start: ReplyCheck,
     reply: &'a [u64],
     count: usize,
 ) -> ReplyCheck
-    requires { ⌜ CheckStarted head (now routes) (now places) (now horizons) (now batch) start × (8 * count ≤ length (now reply)) ⌝ }
-    ensures { λ r. ⌜ Checked head (now (routes .entry)) (now (places .entry)) (now (horizons .entry)) (now (batch .entry)) start (emissionsOf count (now (reply .entry))) r ⌝ }
+    requires { ⌜ CheckStarted head (now routes) (now places) (now processes) (now batch) start × (8 * count ≤ length (now reply)) ⌝ }
+    ensures { λ r. ⌜ Checked head (now (routes .entry)) (now (places .entry)) (now (processes .entry)) (now (batch .entry)) start (emissionsOf count (now (reply .entry))) r ⌝ }
 {
     let mut a = start;
     let mut i: usize = 0;
     while i < count {
         let e = reply_words::emission_in(reply, 8 * i);
-        a = check(head, routes, places, horizons, batch, a, e);
+        a = check(head, routes, places, processes, batch, a, e);
         i += 1;
     }
     a

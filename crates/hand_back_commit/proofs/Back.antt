@@ -67,14 +67,14 @@ module _ (h : Header) (c : Counters) (E Q Z B : List ℕ) (mask : ℕ) (xs : Lis
   pub back-poisoned : h .poisoned ≡ true → HandsBack h c E Q Z B mask xs (record { answer = P.Poisoned; head = h; counters = c }) Q Z B
   back-poisoned p = record {
     gives = sym (row-12 (view h E Q Z B) (countersOf c) mask xs (l .passes) p);
-    kept = λ es x. record { same-head = refl; same-counters = refl; same-edges = refl; same-pending = refl; same-horizons = refl; same-batch = refl };
+    kept = λ es x. record { same-head = refl; same-counters = refl; same-edges = refl; same-pending = refl; same-processes = refl; same-batch = refl };
   }
 
   module _ (p : h .poisoned ≡ false) where
     pub back-empty : h .batch ≡ 0 → HandsBack h c E Q Z B mask xs (record { answer = P.NoBatch; head = h; counters = c }) Q Z B
     back-empty e = record {
       gives = sym (row-25 (view h E Q Z B) (countersOf c) mask xs (l .passes) p (none-is _ (no-events (eventAt B) 0 (h .batch) (omega arith))));
-      kept = λ es x. record { same-head = refl; same-counters = refl; same-edges = refl; same-pending = refl; same-horizons = refl; same-batch = refl };
+      kept = λ es x. record { same-head = refl; same-counters = refl; same-edges = refl; same-pending = refl; same-processes = refl; same-batch = refl };
     }
 
     module _ (n : h .batch ≡ 0 → ⊥) where
@@ -84,7 +84,7 @@ module _ (h : Header) (c : Counters) (E Q Z B : List ℕ) (mask : ℕ) (xs : Lis
       pub back-malformed : malformed (eventsOf (h .batch) B) mask xs ≡ true → HandsBack h c E Q Z B mask xs (record { answer = P.MalformedReply; head = h; counters = c }) Q Z B
       back-malformed e = record {
         gives = sym (row-26 (view h E Q Z B) (countersOf c) mask xs (l .passes) p held e);
-        kept = λ es x. record { same-head = refl; same-counters = refl; same-edges = refl; same-pending = refl; same-horizons = refl; same-batch = refl };
+        kept = λ es x. record { same-head = refl; same-counters = refl; same-edges = refl; same-pending = refl; same-processes = refl; same-batch = refl };
       }
 
       module _ (e : malformed (eventsOf (h .batch) B) mask xs ≡ false) (v : CheckResult) (verdict : ChecksRows (processRows (view h E Q Z B) mask xs (eventsOf (h .batch) B)) v) where

@@ -34,13 +34,12 @@ use Rattle.state.specs.Headers.{committedHeader}
 use Rattle.state.specs.ValidArrays.{ValidArrays}
 use Rattle.state.proofs.Answer.{the-type}
 use Rattle.state.proofs.Deciding.{others}
-use Rattle.state.proofs.Facts.{few-processes, few-edges, edge-destinations, few-pending, batch-order, below-top, batch-runs}
+use Rattle.state.proofs.Facts.{few-processes, batch-order, below-top, batch-runs}
 use Rattle.hand_back_emission.proofs.InHand.{findable}
 use Rattle.hand_back_check.specs.declared.ReplyCheck.{ReplyCheck}
 use Rattle.hand_back_check.specs.EmissionRows.{firstFailed, failedRow}
 use Rattle.hand_back_check.proofs.Turns.{well-formed}
 use Rattle.hand_back_check.proofs.InOrder.{rows-alike}
-use Rattle.frontiers.specs.Rises.{Destinations}
 use Rattle.hand_back_end.specs.EndsRound.{CountsRound, Poisons, CanEndRound, EndsRound}
 use Rattle.hand_back_commit.specs.HandsBack.{HandsBack}
 use Rattle.hand_back_commit.specs.Commits.{InHand, ReplyChecked, Finishes, Fits, refusalOf, Accepts, Passes, FinalCheck, CanEnd, Ends}
@@ -135,7 +134,7 @@ module _ (h : Header) (c : Counters) (E Q Z B : List ℕ) (a : ReplyCheck) (k : 
       finish-full r B′ z d mask xs t = on mask xs t x r Q Z B′ (S.settle-full h c E Q Z B xs k (t .number) l (g .in-hand) y r B′ z d)
 
       finish-on : h .pending + k ≤ 512 → (mask : ℕ) (xs : List Emission) → ReplyChecked h E Q Z B a mask k xs → (Q′ B′ : List ℕ) → eventsOf (h .pending + k) Q′ ≡ queue (eventsOf (h .pending) Q) (h .next) (messages xs)
-          → (d : Counters) (Z′ : List ℕ) (r : CoreResult) → CountsRound c (h .batch) k (a .remote) d → EndsRound (committedHeader h k (saturatingAdd (h .used) (h .batch))) d E Q′ Z r Z′ → HandsBack h c E Q Z B mask xs r Q′ Z′ B′
+          → (d : Counters) (Z′ : List ℕ) (r : CoreResult) → CountsRound c (h .batch) k (a .remote) d → EndsRound (committedHeader h k (saturatingAdd (h .used) (h .batch))) d Q′ Z r Z′ → HandsBack h c E Q Z B mask xs r Q′ Z′ B′
       finish-on z mask xs t Q′ B′ q d Z′ r ct cn =
           let m : a .remote ≡ count isRemote xs = t .remote ∙ omega (arith, count-most xs, t .number) in
           on mask xs t x r Q′ Z′ B′ (S.settle-on h c E Q Z B xs k (t .number) l (g .in-hand) y z Q′ B′ q d (a .remote) Z′ r m ct cn)
@@ -201,26 +200,23 @@ module _ (a : ReplyCheck) (next pending k : ℕ) where
     last-said y e = rw e said
 
 -- The end of a round.
-pub endable : (h : Header) (E Q Z B Q′ : List ℕ) (k : ℕ) → InHand h E Q Z B → Fits (h .next) (h .pending) k → length Q′ ≡ 4096 → CanEnd h E Q′ Z B k
-unfolding Destinations
+pub endable : (h : Header) (E Q Z B Q′ : List ℕ) (k : ℕ) → InHand h E Q Z B → Fits (h .next) (h .pending) k → length Q′ ≡ 4096 → CanEnd h Q′ Z B k
 endable h E Q Z B Q′ k g f n =
     let p = g .lent .passes in
     record {
       few = few-processes h E Q Z B p;
-      edge-words = omega (arith, few-edges h E Q Z B p, g .lent .edge-words);
-      destinations = edge-destinations h E Q Z B p;
       pending-words = omega (arith, f .room);
-      horizon-words = g .lent .horizon-words;
+      process-words = g .lent .process-words;
       batch-words = findable h E Q Z B (g .lent) .0;
       horizon = below-top h E Q Z B p (batch-runs h E Q Z B p (g .in-hand));
       fits = f;
     }
 
-pub concludable : (h : Header) (E Q′ Z B : List ℕ) (k u : ℕ) → CanEnd h E Q′ Z B k → (g : Header) → g ≡ committedHeader h k u → CanEndRound g E Q′ Z
-concludable h E Q′ Z B k u e g y = rw y (record { few = e .few; edge-words = e .edge-words; destinations = e .destinations; pending-words = e .pending-words; horizon-words = e .horizon-words; horizon = e .horizon })
+pub concludable : (h : Header) (Q′ Z B : List ℕ) (k u : ℕ) → CanEnd h Q′ Z B k → (g : Header) → g ≡ committedHeader h k u → CanEndRound g Q′ Z
+concludable h Q′ Z B k u e g y = rw y (record { few = e .few; pending-words = e .pending-words; process-words = e .process-words; horizon = e .horizon })
 
-pub ended : (h : Header) (c : Counters) (E Q′ Z B : List ℕ) (remote k : ℕ) → CanEnd h E Q′ Z B k → (g : Header) → g ≡ committedHeader h k (saturatingAdd (h .used) (h .batch)) → (d : Counters) → CountsRound c (h .batch) k remote d
-    → (Z′ B′ : List ℕ) (r : CoreResult) → EndsRound g d E Q′ Z r Z′ → Ends h c E Q′ Z B remote k r Z′ B′
+pub ended : (h : Header) (c : Counters) (Q′ Z B : List ℕ) (remote k : ℕ) → CanEnd h Q′ Z B k → (g : Header) → g ≡ committedHeader h k (saturatingAdd (h .used) (h .batch)) → (d : Counters) → CountsRound c (h .batch) k remote d
+    → (Z′ B′ : List ℕ) (r : CoreResult) → EndsRound g d Q′ Z r Z′ → Ends h c Q′ Z B remote k r Z′ B′
 unfolding Ends
-ended h c E Q′ Z B remote k e g y d ct Z′ B′ r cn Q a i p m mask xs t q =
-    finish-on h c E Q Z B a k i (a .outcome) (word-sound a (p .passed) (p .none-failed)) (p .passed) (e .fits .in-time) (e .fits .room) mask xs t Q′ B′ q d Z′ r (rw m ct) (subst (λ (x : Header). EndsRound x d E Q′ Z r Z′) y cn)
+ended h c Q′ Z B remote k e g y d ct Z′ B′ r cn E Q a i p m mask xs t q =
+    finish-on h c E Q Z B a k i (a .outcome) (word-sound a (p .passed) (p .none-failed)) (p .passed) (e .fits .in-time) (e .fits .room) mask xs t Q′ B′ q d Z′ r (rw m ct) (subst (λ (x : Header). EndsRound x d Q′ Z r Z′) y cn)

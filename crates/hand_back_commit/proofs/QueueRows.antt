@@ -44,9 +44,9 @@ unfoldable pub settled : State → R.Counters → List Emission → Out
 settled s c xs = unless (lastRows s xs) (poisonWith s c) (commitAt s c (s .stored) xs)
 
 -- Of emissions that 26 and 28 to 33 let pass.
-pub record Settles (h : Header) (c : Counters) (edges pending horizons batch : List ℕ) (xs : List Emission) (r : CoreResult) (pending′ horizons′ batch′ : List ℕ) : Type 0 where
+pub record Settles (h : Header) (c : Counters) (edges pending processes batch : List ℕ) (xs : List Emission) (r : CoreResult) (pending′ processes′ batch′ : List ℕ) : Type 0 where
   pub gives : All (Fit (h .n)) (messages xs)
-      → out (answerOf (eventsOf (r .head .batch) batch′) (r .answer)) (view (r .head) edges pending′ horizons′ batch′) (countersOf (r .counters)) ≡ settled (view h edges pending horizons batch) (countersOf c) xs
+      → out (answerOf (eventsOf (r .head .batch) batch′) (r .answer)) (view (r .head) edges pending′ processes′ batch′) (countersOf (r .counters)) ≡ settled (view h edges pending processes batch) (countersOf c) xs
   pub moves : (es : List Event) → leavesStateAsGiven (answerOf es (r .answer)) ≡ false
 
 module _ (s : State) (c : R.Counters) (xs : List Emission) where
@@ -115,13 +115,13 @@ module _ (h : Header) (c : Counters) (E Q Z B : List ℕ) (xs : List Emission) (
             let v : u ≡ saturatingAdd (h .used) (length (eventsOf (h .batch) B)) = ap (saturatingAdd (h .used)) (sym (length-tab (eventAt B) 0 (h .batch))) in
             λ j. withHandled (view h E Q Z B) (q j) (i j) (v j)
 
-        pub settle-on : (d : Counters) (remote : ℕ) (Z′ : List ℕ) (r : CoreResult) → remote ≡ count isRemote xs → CountsRound c (h .batch) k remote d → EndsRound (committedHeader h k u) d E Q′ Z r Z′ → Settles h c E Q Z B xs r Q′ Z′ B′
+        pub settle-on : (d : Counters) (remote : ℕ) (Z′ : List ℕ) (r : CoreResult) → remote ≡ count isRemote xs → CountsRound c (h .batch) k remote d → EndsRound (committedHeader h k u) d Q′ Z r Z′ → Settles h c E Q Z B xs r Q′ Z′ B′
         unfolding CountsRound
         settle-on d remote Z′ r er ct cn =
             let cs : countersOf d ≡ countRound (countersOf c) (eventsOf (h .batch) B) xs = ct (eventsOf (h .batch) B) xs (length-tab (eventAt B) 0 (h .batch)) n (sym er) in
             let is : view h E Q Z B .stored ≡ stored (ticksOf (h .horizon)) (h .budget) = stored-is (h .stored) (ticksOf (h .horizon)) (h .budget) (is-stored h E Q Z B (m .passes) runs) in
             record {
-              gives = λ fit. cn .gives B′ (queued Q′ B′ fit u left)
+              gives = λ fit. cn .gives E B′ (queued Q′ B′ fit u left)
                   ∙ (λ i. roundEnded (left i) (cs i) (ticksOf (h .horizon)) (h .budget))
                   ∙ sym (passed (view h E Q Z B) (countersOf c) xs in-time roomy (stored (ticksOf (h .horizon)) (h .budget)) is
                   ∙ commits (view h E Q Z B) (countersOf c) xs (ticksOf (h .horizon)) (h .budget));

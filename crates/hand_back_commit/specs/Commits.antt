@@ -15,7 +15,6 @@ use Rattle.hand_back_emission.specs.declared.CheckResult.{CheckResult}
 use Rattle.hand_back_emission.specs.Checks.{ChecksRows}
 use Rattle.hand_back_check.specs.declared.ReplyCheck.{ReplyCheck}
 use Rattle.hand_back_check.specs.EmissionRows.{firstFailed, rowsUpTo}
-use Rattle.frontiers.specs.Rises.{Destinations}
 use Rattle.hand_back_end.specs.EndsRound.{Poisons}
 use Rattle.state.specs.declared.Header.{Header}
 use Rattle.state.specs.declared.Counters.{Counters}
@@ -27,17 +26,17 @@ use Rattle.state.specs.ValidArrays.{ValidArrays}
 use Rattle.hand_back_commit.specs.HandsBack.{HandsBack}
 
 -- A batch is in hand, in a state that 11 and 12 let pass.
-pub record InHand (h : Header) (edges pending horizons batch : List ℕ) : Type 0 where
-  pub lent : ValidArrays h edges pending horizons batch
+pub record InHand (h : Header) (edges pending processes batch : List ℕ) : Type 0 where
+  pub lent : ValidArrays h edges pending processes batch
   pub healthy : h .poisoned ≡ false
   pub in-hand : 0 < h .batch
 
 -- The k emissions xs of a reply are checked, and a says how far: the reply is not malformed.
-pub record ReplyChecked (h : Header) (edges pending horizons batch : List ℕ) (a : ReplyCheck) (mask k : ℕ) (xs : List Emission) : Type 0 where
+pub record ReplyChecked (h : Header) (edges pending processes batch : List ℕ) (a : ReplyCheck) (mask k : ℕ) (xs : List Emission) : Type 0 where
   pub number : length xs ≡ k
   pub not-malformed : malformed (eventsOf (h .batch) batch) mask xs ≡ false
   pub failed-is : a .failed ≡ firstFailed mask (eventsOf (h .batch) batch)
-  pub outcome-is : ChecksRows (rowsUpTo (view h edges pending horizons batch) (eventsOf (h .batch) batch) (a .failed) xs) (a .outcome)
+  pub outcome-is : ChecksRows (rowsUpTo (view h edges pending processes batch) (eventsOf (h .batch) batch) (a .failed) xs) (a .outcome)
   pub remote : a .remote ≡ saturatingAdd 0 (count isRemote xs)
 
 -- What is left is what the rules' hand back of the checked emissions leaves.
@@ -70,21 +69,19 @@ pub record Passes (a : ReplyCheck) : Type 0 where
 -- The check v with 27, 19 and 18 behind the rows that a's is of: where it refuses, the round is lost with its answer.
 pub record FinalCheck (a : ReplyCheck) (next pending k : ℕ) (v : CheckResult) : Type 0 where
   pub passes : v .passed ≡ true → Passes a × Fits next pending k
-  pub loses : v .passed ≡ false → (h : Header) (c : Counters) (edges pend horizons batch : List ℕ) (r : CoreResult) (batch′ : List ℕ) → h .next ≡ next → h .pending ≡ pending
-      → InHand h edges pend horizons batch → Poisons (v .answer) h c r → Finishes h c edges pend horizons batch a k r pend horizons batch′
+  pub loses : v .passed ≡ false → (h : Header) (c : Counters) (edges pend processes batch : List ℕ) (r : CoreResult) (batch′ : List ℕ) → h .next ≡ next → h .pending ≡ pending
+      → InHand h edges pend processes batch → Poisons (v .answer) h c r → Finishes h c edges pend processes batch a k r pend processes batch′
 
 -- What the end of a round of k emissions asks, with these queued.
-pub record CanEnd (h : Header) (edges pending horizons batch : List ℕ) (k : ℕ) : Type 0 where
+pub record CanEnd (h : Header) (pending processes batch : List ℕ) (k : ℕ) : Type 0 where
   pub few : h .n ≤ 64
-  pub edge-words : 4 * h .edges ≤ length edges
-  pub destinations : Destinations 64 (h .edges) edges
   pub pending-words : 8 * (h .pending + k) ≤ length pending
-  pub horizon-words : length horizons ≡ 128
+  pub process-words : length processes ≡ 256
   pub batch-words : 8 * h .batch ≤ length batch
   pub horizon : ticksOf (h .horizon) < 2 ^ 128 - 1
   pub fits : Fits (h .next) (h .pending) k
 
--- It is the rules' hand back, for any pending words before and any check that so many remote emissions were counted in, if the emissions were queued.
-unfoldable pub Ends : Header → Counters → List ℕ → List ℕ → List ℕ → List ℕ → ℕ → ℕ → CoreResult → List ℕ → List ℕ → Type 0
-Ends h c E Q′ Z B remote k r Z′ B′ = (Q : List ℕ) (a : ReplyCheck) → InHand h E Q Z B → Passes a → a .remote ≡ remote → (mask : ℕ) (xs : List Emission) → ReplyChecked h E Q Z B a mask k xs
+-- It is the rules' hand back, for any edges, any pending words before and any check that so many remote emissions were counted in, if the emissions were queued.
+unfoldable pub Ends : Header → Counters → List ℕ → List ℕ → List ℕ → ℕ → ℕ → CoreResult → List ℕ → List ℕ → Type 0
+Ends h c Q′ Z B remote k r Z′ B′ = (E Q : List ℕ) (a : ReplyCheck) → InHand h E Q Z B → Passes a → a .remote ≡ remote → (mask : ℕ) (xs : List Emission) → ReplyChecked h E Q Z B a mask k xs
     → eventsOf (h .pending + k) Q′ ≡ queue (eventsOf (h .pending) Q) (h .next) (messages xs) → HandsBack h c E Q Z B mask xs r Q′ Z′ B′

@@ -14,6 +14,6 @@ use Rattle.state.specs.View.{view, countersOf, answerOf}
 use Rattle.state.specs.AsGiven.{leavesStateAsGiven, SameAsGiven}
 
 -- What the core of hand back promises. The edges are not touched.
-pub record HandsBack (h : Header) (c : Counters) (edges pending horizons batch : List ℕ) (mask : ℕ) (xs : List Emission) (r : CoreResult) (pending′ horizons′ batch′ : List ℕ) : Type 0 where
-  pub gives : out (answerOf (eventsOf (r .head .batch) batch′) (r .answer)) (view (r .head) edges pending′ horizons′ batch′) (countersOf (r .counters)) ≡ handBack (view h edges pending horizons batch) (countersOf c) mask xs
-  pub kept : (es : List Event) → leavesStateAsGiven (answerOf es (r .answer)) ≡ true → SameAsGiven h c edges pending horizons batch r edges pending′ horizons′ batch′
+pub record HandsBack (h : Header) (c : Counters) (edges pending processes batch : List ℕ) (mask : ℕ) (xs : List Emission) (r : CoreResult) (pending′ processes′ batch′ : List ℕ) : Type 0 where
+  pub gives : out (answerOf (eventsOf (r .head .batch) batch′) (r .answer)) (view (r .head) edges pending′ processes′ batch′) (countersOf (r .counters)) ≡ handBack (view h edges pending processes batch) (countersOf c) mask xs
+  pub kept : (es : List Event) → leavesStateAsGiven (answerOf es (r .answer)) ≡ true → SameAsGiven h c edges pending processes batch r edges pending′ processes′ batch′

@@ -71,20 +71,19 @@ fn handle(head: Header, batch: &mut [u64], emitted: usize) -> Header
 }
 
 // The round, whose emissions are queued, is counted and ended.
-pub fn commit_round<'a>(
+pub fn commit_round(
     head: Header,
     counters: Counters,
-    edges: &'a [u64],
-    pending: &'a [u64],
-    horizons: &mut [u64],
+    pending: &[u64],
+    processes: &mut [u64],
     batch: &mut [u64],
     remote: u64,
     emitted: usize,
 ) -> CoreResult
-    requires { ⌜ CanEnd head (now edges) (now pending) (now horizons) (now batch) emitted ⌝ }
-    ensures { λ r. ⌜ Ends head counters (now (edges .entry)) (now (pending .entry)) (now (horizons .entry)) (now (batch .entry)) remote emitted r (now (horizons .exit)) (now (batch .exit)) ⌝ }
+    requires { ⌜ CanEnd head (now pending) (now processes) (now batch) emitted ⌝ }
+    ensures { λ r. ⌜ Ends head counters (now (pending .entry)) (now (processes .entry)) (now (batch .entry)) remote emitted r (now (processes .exit)) (now (batch .exit)) ⌝ }
 {
     let c = hand_back_end::count_round(counters, head.batch as u64, emitted as u64, remote);
     let h = handle(head, batch, emitted);
-    hand_back_end::end_round(h, c, edges, pending, horizons)
+    hand_back_end::end_round(h, c, pending, processes)
 }

@@ -37,11 +37,11 @@ tickRows x t least local =
 unfoldable pub rowsOf : State → ℕ → Emission → List Row
 rowsOf s t x = messageRows (s .n) (route (s .edges)) (s .lookahead) (x .emitter) t (x .message) ++ (stragglerRow s (x .message) ∷ [])
 
--- What 28 to 33 ask: the words of the routes and of the local horizons are there.
-pub record CanCheck (h : Header) (routes horizons : List ℕ) : Type 0 where
+-- What 28 to 33 ask: the words of the routes and of the processes are there.
+pub record CanCheck (h : Header) (routes processes : List ℕ) : Type 0 where
   pub few : h .n ≤ 64
   pub route-words : length routes ≡ 64
-  pub horizon-words : length horizons ≡ 128
+  pub process-words : length processes ≡ 256
 
 -- For any edges that the routes are of, whatever the pending words and those in hand are: 28 to 33 read neither.
 unfoldable pub ChecksEmission : Header → List ℕ → List ℕ → W.Emission → SimTime → CheckResult → Type 0

@@ -31,15 +31,15 @@ fn minimum_tick(e: Emission, time: SimTime, lookahead: SimDuration) -> Added
 }
 
 // 32 and 33 of an emission whose minimum is `least`.
-fn check_tick(horizons: &[u64], e: Emission, time: SimTime, least: SimTime) -> CheckResult
-    requires { ⌜ (length (now horizons) ≡ 128) × (lpIdOf (e .destination) < 64) ⌝ }
-    ensures { λ r. ⌜ ChecksRows (tickRows (emissionOf e) (ticksOf time) (ticksOf least) (tickAt (now (horizons .entry)) (2 * lpIdOf (e .destination)))) r ⌝ }
+fn check_tick(processes: &[u64], e: Emission, time: SimTime, least: SimTime) -> CheckResult
+    requires { ⌜ (length (now processes) ≡ 256) × (lpIdOf (e .destination) < 64) ⌝ }
+    ensures { λ r. ⌜ ChecksRows (tickRows (emissionOf e) (ticksOf time) (ticksOf least) (tickAt (now (processes .entry)) (2 * lpIdOf (e .destination)))) r ⌝ }
 {
     let tick = e.tick;
     let emitter = e.emitter;
     let destination = e.destination;
     let to = destination.to_word();
-    let local = words::tick_in(horizons, 2 * to as usize);
+    let local = words::tick_in(processes, 2 * to as usize);
     if tick.lt(least) {
         return CheckResult {
             passed: false,
@@ -63,12 +63,12 @@ fn check_tick(horizons: &[u64], e: Emission, time: SimTime, least: SimTime) -> C
 pub fn check_emission<'a>(
     head: Header,
     routes: &'a [u64],
-    horizons: &'a [u64],
+    processes: &'a [u64],
     e: Emission,
     time: SimTime,
 ) -> CheckResult
-    requires { ⌜ CanCheck head (now routes) (now horizons) × (lpIdOf (e .emitter) < 64) ⌝ }
-    ensures { λ r. ⌜ ChecksEmission head (now (routes .entry)) (now (horizons .entry)) e time r ⌝ }
+    requires { ⌜ CanCheck head (now routes) (now processes) × (lpIdOf (e .emitter) < 64) ⌝ }
+    ensures { λ r. ⌜ ChecksEmission head (now (routes .entry)) (now (processes .entry)) e time r ⌝ }
 {
     let emitter = e.emitter;
     let source = e.source;
@@ -96,7 +96,7 @@ pub fn check_emission<'a>(
     let lookahead = head.lookahead;
     let least = minimum_tick(e, time, lookahead);
     match least {
-        Added::Sum(t) => check_tick(horizons, e, time, t),
+        Added::Sum(t) => check_tick(processes, e, time, t),
         Added::Overflow => CheckResult {
             passed: false,
             answer: Answer::LookaheadOverflow(emitter, time, lookahead),

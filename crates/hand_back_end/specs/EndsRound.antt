@@ -2,7 +2,7 @@
 use mathlib.Core.Path.{_≡_}
 use mathlib.Core.Bool.{false}
 use mathlib.Core.List.{List}
-use Prim.Native.Nat.{ℕ, suc, _*_, _^_, _-_, _≤_, _<_}
+use Prim.Native.Nat.{ℕ, _*_, _^_, _-_, _≤_, _<_}
 use lib.ListN.{length}
 use Rattle.types.specs.Value.{ticksOf}
 use Rattle.records.specs.Records.{eventsOf}
@@ -15,7 +15,6 @@ use Rattle.rules.specs.Refresh.{refreshed}
 use Rattle.rules.specs.Step.{spent}
 use Rattle.rules.specs.HandBack.{Emission, isRemote, countRound}
 use Rattle.rules.proofs.Shape.{Queued}
-use Rattle.frontiers.specs.Rises.{Destinations}
 use Rattle.state.specs.declared.Header.{Header}
 use Rattle.state.specs.declared.Counters.{Counters}
 use Rattle.state.specs.declared.Answer.{Answer}
@@ -23,7 +22,7 @@ use Rattle.state.specs.declared.CoreResult.{CoreResult}
 use Rattle.state.specs.View.{view, countersOf, answerOf}
 use Rattle.state.specs.Headers.{poisonedHeader}
 use Rattle.state.specs.AsGiven.{leavesStateAsGiven}
-use Rattle.step_advance.specs.Refreshes.{TablesFound}
+use Rattle.step_advance.specs.Advances.{FirstTicksOf}
 
 -- The counters c after a round that handled the events es and emitted the xs.
 unfoldable pub CountsRound : Counters → ℕ → ℕ → ℕ → Counters → Type 0
@@ -36,25 +35,23 @@ Poisons a h c r = r ≡ record { answer = a; head = poisonedHeader h; counters =
 -- The end of the rules' `commit`, of a state t in which the round is done.
 unfoldable pub roundEnded : State → R.Counters → ℕ → ℕ → Out
 roundEnded t c horizon budget =
-    let u = refreshed t horizon (t .edges) (t .edges) (t .horizons) in
+    let u = refreshed t horizon (t .edges) (t .inbound) (t .horizons) in
     if spent t horizon budget then out (A.Refused (A.EventBudgetExceeded budget)) (closed t) c
     else out (A.Committed (u .gvt)) u c
 
-pub record CanEndRound (h : Header) (edges pending horizons : List ℕ) : Type 0 where
+pub record CanEndRound (h : Header) (pending processes : List ℕ) : Type 0 where
   pub few : h .n ≤ 64
-  pub edge-words : 4 * h .edges ≤ length edges
-  pub destinations : Destinations 64 (h .edges) edges
   pub pending-words : 8 * h .pending ≤ length pending
-  pub horizon-words : length horizons ≡ 128
+  pub process-words : length processes ≡ 256
   pub horizon : ticksOf (h .horizon) < 2 ^ 128 - 1
 
--- Whatever the batch's words are, where the pending events are as 11 lets them pass; and the answer is none that leaves the state as given.
-pub record EndsRound (h : Header) (c : Counters) (edges pending horizons : List ℕ) (r : CoreResult) (horizons′ : List ℕ) : Type 0 where
-  pub gives : (B : List ℕ) → Queued (h .n) (h .next) (eventsOf (h .pending) pending)
-      → out (answerOf (eventsOf (r .head .batch) B) (r .answer)) (view (r .head) edges pending horizons′ B) (countersOf (r .counters)) ≡ roundEnded (view h edges pending horizons B) (countersOf c) (ticksOf (h .horizon)) (h .budget)
+-- Whatever the edges and the batch's words are, where the pending events are as 11 lets them pass; and the answer is none that leaves the state as given.
+pub record EndsRound (h : Header) (c : Counters) (pending processes : List ℕ) (r : CoreResult) (processes′ : List ℕ) : Type 0 where
+  pub gives : (E B : List ℕ) → Queued (h .n) (h .next) (eventsOf (h .pending) pending)
+      → out (answerOf (eventsOf (r .head .batch) B) (r .answer)) (view (r .head) E pending processes′ B) (countersOf (r .counters)) ≡ roundEnded (view h E pending processes B) (countersOf c) (ticksOf (h .horizon)) (h .budget)
   pub moves : (es : List Event) → leavesStateAsGiven (answerOf es (r .answer)) ≡ false
 
--- The header and the local horizons are the rules' refreshed ones, of whatever state with this header the tables are.
-pub record RefreshesHeader (h : Header) (horizons safe first : List ℕ) (r : Header) (horizons′ : List ℕ) : Type 0 where
-  pub state : (E P B : List ℕ) → Queued (h .n) (h .next) (eventsOf (h .pending) P) → TablesFound (view h E P horizons B) (suc (ticksOf (h .horizon))) safe first
-      → let s = view h E P horizons B in view r E P horizons′ B ≡ refreshed s (ticksOf (h .horizon)) (s .edges) (s .edges) (s .horizons)
+-- The header and the local horizons are the rules' refreshed ones, and the record stays, of whatever state with this header the first ticks are.
+pub record RefreshesHeader (h : Header) (processes first : List ℕ) (r : Header) (processes′ : List ℕ) : Type 0 where
+  pub state : (E P B : List ℕ) → Queued (h .n) (h .next) (eventsOf (h .pending) P) → FirstTicksOf h P first
+      → let s = view h E P processes B in view r E P processes′ B ≡ refreshed s (ticksOf (h .horizon)) (s .edges) (s .inbound) (s .horizons)

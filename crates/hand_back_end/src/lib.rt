@@ -4,8 +4,9 @@ use state::CoreResult;
 use state::Counters;
 use state::Header;
 use step_advance::exclusive_horizon;
+use types::SimTime;
 ghost use mathlib.Core.Path.{_≡_};
-ghost use Prim.Native.Nat.{_*_, _^_, _-_, _≤_, _<_, max};
+ghost use Prim.Native.Nat.{suc, _*_, _≤_, max};
 ghost use lib.ListN.{length};
 ghost use Rattle.types.specs.Value.{ticksOf};
 ghost use Rattle.state.specs.Headers.{poisonedHeader};
@@ -55,14 +56,12 @@ pub fn poison(answer: Answer, head: Header, counters: Counters, batch: &mut [u64
     }
 }
 
-// "refresh": local horizons rise to what the tables say, and GVT.
-fn refreshed<'a>(head: Header, horizons: &mut [u64], safe: &'a [u64], first: &'a [u64]) -> Header
-    requires { ⌜ CanRefresh (head .n) (now horizons) (now safe) (now first) × (ticksOf (head .horizon) < 2 ^ 128 - 1) ⌝ }
-    ensures { λ r. ⌜ RefreshesHeader head (now (horizons .entry)) (now (safe .entry)) (now (first .entry)) r (now (horizons .exit)) ⌝ }
+// "refresh": local horizons rise to what the record and the first ticks say, and GVT.
+fn refreshed(head: Header, processes: &mut [u64], first: &[u64], top: SimTime) -> Header
+    requires { ⌜ CanRefresh (head .n) (now processes) (now first) × (ticksOf top ≡ suc (ticksOf (head .horizon))) ⌝ }
+    ensures { λ r. ⌜ RefreshesHeader head (now (processes .entry)) (now (first .entry)) r (now (processes .exit)) ⌝ }
 {
-    let horizon = head.horizon;
-    let top = exclusive_horizon(horizon);
-    let result = step_advance::refresh(head.n, head.gvt, horizons, safe, first, top);
+    let result = step_advance::refresh(head.n, head.gvt, processes, first, top);
     let gvt = result.gvt;
     let mut h = head;
     h.gvt = gvt;
@@ -71,20 +70,20 @@ fn refreshed<'a>(head: Header, horizons: &mut [u64], safe: &'a [u64], first: &'a
 
 // The round is counted and the batch gone: "Then 24 if used >= budget and an event is eligible,
 // without refresh; else refresh and answer Committed."
-pub fn end_round<'a>(
+pub fn end_round(
     head: Header,
     counters: Counters,
-    edges: &'a [u64],
-    pending: &'a [u64],
-    horizons: &mut [u64],
+    pending: &[u64],
+    processes: &mut [u64],
 ) -> CoreResult
-    requires { ⌜ CanEndRound head (now edges) (now pending) (now horizons) ⌝ }
-    ensures { λ r. ⌜ EndsRound head counters (now (edges .entry)) (now (pending .entry)) (now (horizons .entry)) r (now (horizons .exit)) ⌝ }
+    requires { ⌜ CanEndRound head (now pending) (now processes) ⌝ }
+    ensures { λ r. ⌜ EndsRound head counters (now (pending .entry)) (now (processes .entry)) r (now (processes .exit)) ⌝ }
 {
-    let mut safe = [0u64; 128];
+    let horizon = head.horizon;
+    let top = exclusive_horizon(horizon);
     let mut first = [0u64; 128];
-    step_advance::frontiers_and_first_ticks(head, edges, pending, &mut safe, &mut first);
-    if step_advance::budget_spent(head, &safe, &first) {
+    frontiers::first_ticks(pending, head.pending, head.n, top, &mut first);
+    if step_advance::budget_spent(head, processes, &first, top) {
         let mut h = head;
         h.running = false;
         return CoreResult {
@@ -93,7 +92,7 @@ pub fn end_round<'a>(
             counters: counters,
         };
     }
-    let h = refreshed(head, horizons, &safe, &first);
+    let h = refreshed(head, processes, &first, top);
     let gvt = h.gvt;
     CoreResult {
         answer: Answer::Committed(gvt),

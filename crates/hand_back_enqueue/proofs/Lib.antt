@@ -1,1 +1,2 @@
 pub mod Enqueueing
+pub mod Merged

@@ -54,15 +54,16 @@ module _ (s : Runtime) (mask : ℕ) (o : Opened) (ys : List Emission) (a : Scan)
   was g = was-going _ _ _ _ _ _ (w .begun) (replyOf ys) (a .check) (t .checked) g
 
   module _ (g : o .scan .check .going ≡ true) where
-    l : ValidArrays (s .head) (s .edges) (s .pending) (s .horizons) (s .batch)
+    l : ValidArrays (s .head) (s .edges) (s .pending) (s .processes) (s .batch)
     l = w .lent g
 
-    checks-reply : ChecksReply (s .head) (s .edges) (s .horizons) (s .batch) mask (replyOf ys) (a .check)
+    checks-reply : ChecksReply (s .head) (s .edges) (s .processes) (s .batch) mask (replyOf ys) (a .check)
     checks-reply =
-        let d = w .tabled g in
-        let c : Checked (s .head) (routesIn (o .words)) (placesIn (o .words)) (s .horizons) (s .batch) (o .scan .check) (replyOf ys) (a .check) = rw (w .same-head, d .horizons-are, d .batch-is) at (t .checked) in
-        Review.checks-reply (s .head) (s .edges) (s .horizons) (s .batch) mask (o .scan .check) (routesIn (o .words)) (placesIn (o .words))
-        (Review.ready (s .head) (s .edges) (s .pending) (s .horizons) (s .batch) l) (l .horizon-words) (l .batch-words) (d .begins) (replyOf ys) (a .check) c
+        let b = w .tabled g .begins in
+        let d = w .tabled g .tables g in
+        let c : Checked (s .head) (routesIn (o .words)) (placesIn (o .words)) (s .processes) (s .batch) (o .scan .check) (replyOf ys) (a .check) = rw (w .same-head, d .processes-are, d .batch-is) at (t .checked) in
+        Review.checks-reply (s .head) (s .edges) (s .processes) (s .batch) mask (o .scan .check) (routesIn (o .words)) (placesIn (o .words))
+        (Review.ready (s .head) (s .edges) (s .pending) (s .processes) (s .batch) l) (l .process-words) (l .batch-words) (d .route-words) (d .routes) b (replyOf ys) (a .check) c
 
   -- It stopped.
   pub given-back : (c : Counters) → a .check .going ≡ false → Executes (HandBack mask (replyOf ys)) s c (a .check .outcome .answer) s c
@@ -72,11 +73,11 @@ module _ (s : Runtime) (mask : ℕ) (o : Opened) (ys : List Emission) (a : Scan)
       (λ g. rw (t .checked .stopped g) (w .refused g (replyOf ys) c))
 
   -- It went on.
-  pub in-hand : a .check .going ≡ true → InHand (s .head) (s .edges) (s .pending) (s .horizons) (s .batch)
+  pub in-hand : a .check .going ≡ true → InHand (s .head) (s .edges) (s .pending) (s .processes) (s .batch)
   in-hand g = let p = checks-reply (was g) .passed g in record { lent = l (was g); healthy = p .healthy; in-hand = omega (arith, p .in-hand) }
 
-  reply-checked : (k : ℕ) → length ys ≡ k → a .check .going ≡ true → ReplyChecked (s .head) (s .edges) (s .pending) (s .horizons) (s .batch) (a .check) mask k (replyOf ys)
-  reply-checked k e g = subst (λ (n : ℕ). ReplyChecked (s .head) (s .edges) (s .pending) (s .horizons) (s .batch) (a .check) mask n (replyOf ys)) (length-map ys emissionOf ∙ e) (checks-reply (was g) .checked g (s .pending))
+  reply-checked : (k : ℕ) → length ys ≡ k → a .check .going ≡ true → ReplyChecked (s .head) (s .edges) (s .pending) (s .processes) (s .batch) (a .check) mask k (replyOf ys)
+  reply-checked k e g = subst (λ (n : ℕ). ReplyChecked (s .head) (s .edges) (s .pending) (s .processes) (s .batch) (a .check) mask n (replyOf ys)) (length-map ys emissionOf ∙ e) (checks-reply (was g) .checked g (s .pending))
 
   -- All checks were made.
   module _ (k : ℕ) (p : Admission) (x : AdmissionOf (a .check) (a .head) k p) (e : length ys ≡ k) where
@@ -96,8 +97,8 @@ module _ (s : Runtime) (mask : ℕ) (o : Opened) (ys : List Emission) (a : Scan)
         rw (d .tail) (record {
           places = omega (arith, f .room, e, in-hand g .lent .pending-words);
           numbers = omega (arith, f .in-time, e);
-          ordered = in-order (s .head) (s .edges) (s .pending) (s .horizons) (s .batch) (in-hand g .lent .passes);
-          newest = newest (s .head) (s .edges) (s .pending) (s .horizons) (s .batch) (in-hand g .lent .passes);
+          ordered = in-order (s .head) (s .edges) (s .pending) (s .processes) (s .batch) (in-hand g .lent .passes);
+          newest = newest (s .head) (s .edges) (s .pending) (s .processes) (s .batch) (in-hand g .lent .passes);
         })
 
     -- The second pass went over them too, and left the pending words u.
@@ -105,11 +106,11 @@ module _ (s : Runtime) (mask : ℕ) (o : Opened) (ys : List Emission) (a : Scan)
       was-admitted : a .check .going ≡ true → b .outcome .passed ≡ true → p .admitted ≡ true
       was-admitted g y = d .admits g ∙ rw (← z .same-verdict) y
 
-      can-end : a .check .going ≡ true → b .outcome .passed ≡ true → CanEnd (s .head) (s .edges) u (s .horizons) (s .batch) k
-      can-end g y = endable (s .head) (s .edges) (s .pending) (s .horizons) (s .batch) u k (in-hand g) (fits g (rw (← z .same-verdict) y)) (z .queued (was-admitted g y) .same ∙ in-hand g .lent .pending-words)
+      can-end : a .check .going ≡ true → b .outcome .passed ≡ true → CanEnd (s .head) u (s .processes) (s .batch) k
+      can-end g y = endable (s .head) (s .edges) (s .pending) (s .processes) (s .batch) u k (in-hand g) (fits g (rw (← z .same-verdict) y)) (z .queued (was-admitted g y) .same ∙ in-hand g .lent .pending-words)
 
       pub closable : Closable (withPending s u) a b k
-      closable = record { batch-words = λ g. findable (s .head) (s .edges) (s .pending) (s .horizons) (s .batch) (in-hand g .lent) .0; can-end = can-end }
+      closable = record { batch-words = λ g. findable (s .head) (s .edges) (s .pending) (s .processes) (s .batch) (in-hand g .lent) .0; can-end = can-end }
 
       -- Where the round is not admitted, the pending words are those from before.
       pub unqueued : a .check .going ≡ false → u ≡ s .pending
@@ -125,14 +126,14 @@ module _ (s : Runtime) (mask : ℕ) (o : Opened) (ys : List Emission) (a : Scan)
             let n : length (replyOf ys) ≡ k = length-map ys emissionOf ∙ e in
             let v : eventsOf (s .head .pending + k) u ≡ queue (eventsOf (s .head .pending) (s .pending)) (s .head .next) (messages (replyOf ys)) = rw (d .tail, n) at (z .queued (was-admitted g y) .events) in
             subst (λ (i : Runtime). Executes (HandBack mask (replyOf ys)) s c (r .answer) i (r .counters)) (sym (m .left))
-            (carries-back s c (afterOf r) u (r .state .horizons) (r .state .batch) mask (replyOf ys) (m .ends (s .pending) (a .check) (in-hand g) (final .passes y .0) refl mask (replyOf ys) (reply-checked k e g) v))
+            (carries-back s c (afterOf r) u (r .state .processes) (r .state .batch) mask (replyOf ys) (m .ends (s .edges) (s .pending) (a .check) (in-hand g) (final .passes y .0) refl mask (replyOf ys) (reply-checked k e g) v))
 
         pub poisoned : b .outcome .passed ≡ false → (r : CallResult) → PoisonsTo (withPending s u) c (b .outcome .answer) r → Executes (HandBack mask (replyOf ys)) s c (r .answer) (r .state) (r .counters)
         unfolding Finishes
         poisoned y r m =
             let f : u ≡ s .pending = z .untouched (d .admits g ∙ rw (← z .same-verdict) y) in
-            subst (λ (i : Runtime). Executes (HandBack mask (replyOf ys)) s c (r .answer) i (r .counters)) (sym (m .left ∙ ap (λ (q : List ℕ). record { edges = s .edges; pending = q; horizons = s .horizons; batch = r .state .batch; head = r .state .head }) f))
-            (carries-back s c (afterOf r) (s .pending) (s .horizons) (r .state .batch) mask (replyOf ys) (final .loses y (s .head) c (s .edges) (s .pending) (s .horizons) (s .batch) (afterOf r) (r .state .batch) refl refl (in-hand g) (m .poisons) mask (replyOf ys) (reply-checked k e g)))
+            subst (λ (i : Runtime). Executes (HandBack mask (replyOf ys)) s c (r .answer) i (r .counters)) (sym (m .left ∙ ap (λ (q : List ℕ). record { edges = s .edges; pending = q; processes = s .processes; batch = r .state .batch; head = r .state .head }) f))
+            (carries-back s c (afterOf r) (s .pending) (s .processes) (r .state .batch) mask (replyOf ys) (final .loses y (s .head) c (s .edges) (s .pending) (s .processes) (s .batch) (afterOf r) (r .state .batch) refl refl (in-hand g) (m .poisons) mask (replyOf ys) (reply-checked k e g)))
 
 -- The end of a call, with s the runtime after the second pass.
 module _ (s : Runtime) (c : Counters) (a : Scan) (b : Admission) (k : ℕ) where

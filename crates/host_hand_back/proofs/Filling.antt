@@ -7,7 +7,7 @@ use native.Mathlib.Nat.{add-zero}
 use native.Mathlib.Numerals.{add-one}
 use lib.ListN.{length, getD, set, take, drop, length-set, length-append}
 use lib.Seq.{take-all, take-suc, take-suc-set, take-at, drop-append-seam}
-use Rattle.host_hand_back.specs.Passes.{Copied, Sizes, tablesOf, routesIn, placesIn, horizonsIn, batchIn}
+use Rattle.host_hand_back.specs.Passes.{Copied, Sizes, tablesOf, routesIn, placesIn, processesIn, batchIn}
 
 -- The first i words are copied.
 pub record Copying (at : ℕ) (from w₀ : List ℕ) (i : ℕ) (w : List ℕ) : Type 0 where
@@ -41,11 +41,11 @@ unfolding Copied
 behind n m X from w u e h c = rw (← e) (c ∙ ap (λ (x : List ℕ). x ++ from) h)
 
 module _ (R T Z B : List ℕ) (s : Sizes R T Z B) where
-  pub filled : (w u v x y : List ℕ) → length y ≡ 768 → Copied 0 R w u → Copied 64 T u v → Copied 128 Z v x → Copied 256 B x y → y ≡ tablesOf R T Z B
+  pub filled : (w u v x y : List ℕ) → length y ≡ 896 → Copied 0 R w u → Copied 64 T u v → Copied 128 Z v x → Copied 384 B x y → y ≡ tablesOf R T Z B
   filled w u v x y l a b c d =
-      sym (take-all 768 y (omega arith))
-      ∙ behind 256 768 _ B x y (omega (arith, s .batch-words))
-      (behind 128 256 _ Z v x (omega (arith, s .horizon-words))
+      sym (take-all 896 y (omega arith))
+      ∙ behind 384 896 _ B x y (omega (arith, s .batch-words))
+      (behind 128 384 _ Z v x (omega (arith, s .process-words))
       (behind 64 128 _ T u v (omega (arith, s .place-words)) (behind 0 64 [] R w u (omega (arith, s .route-words)) refl a) b) c) d
 
 -- A part in the middle.
@@ -65,14 +65,14 @@ module _ (R T Z B : List ℕ) (s : Sizes R T Z B) where
   long-two : length two ≡ 128
   long-two = omega (arith, length-append R T, s .route-words, s .place-words)
 
-  long-three : length three ≡ 256
-  long-three = omega (arith, length-append two Z, long-two, s .horizon-words)
+  long-three : length three ≡ 384
+  long-three = omega (arith, length-append two Z, long-two, s .process-words)
 
   pub batch-there : batchIn (tablesOf R T Z B) ≡ B
-  batch-there = last three B 256 512 long-three (s .batch-words)
+  batch-there = last three B 384 512 long-three (s .batch-words)
 
-  pub horizons-there : horizonsIn (tablesOf R T Z B) ≡ Z
-  horizons-there = middle two Z B 128 128 long-two (s .horizon-words)
+  pub processes-there : processesIn (tablesOf R T Z B) ≡ Z
+  processes-there = middle two Z B 128 256 long-two (s .process-words)
 
   pub places-there : placesIn (tablesOf R T Z B) ≡ T
   places-there = ap (λ (l : List ℕ). take 64 (drop 64 l)) (append-assoc two Z B) ∙ middle R T (Z ++ B) 64 64 (s .route-words) (s .place-words)

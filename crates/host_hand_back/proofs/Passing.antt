@@ -13,21 +13,21 @@ use Rattle.hand_back_enqueue.proofs.Enqueueing.{map-snoc, enqueued-none, enqueu
 use Rattle.hand_back_check.proofs.Checking.{checked-start, still-checkable, checked-more}
 use Rattle.host_hand_back.specs.declared.Scan.{Scan}
 use Rattle.host_hand_back.specs.declared.Admission.{Admission}
-use Rattle.host_hand_back.specs.Passes.{replyOf, routesIn, placesIn, horizonsIn, batchIn, Checkable, ChecksNext, Begun, Scanned, Enqueueable, EnqueuesNext, Admitted, Queued}
+use Rattle.host_hand_back.specs.Passes.{replyOf, routesIn, placesIn, processesIn, batchIn, Checkable, ChecksNext, Begun, Scanned, Enqueueable, EnqueuesNext, Admitted, Queued}
 
 -- The first pass.
 module _ (D : List ℕ) (a : Scan) (d : Begun D a) where
   pub scanned-start : Scanned D a [] a
-  scanned-start = record { same-head = refl; checked = checked-start (a .head) (routesIn D) (placesIn D) (horizonsIn D) (batchIn D) (a .check) d }
+  scanned-start = record { same-head = refl; checked = checked-start (a .head) (routesIn D) (placesIn D) (processesIn D) (batchIn D) (a .check) d }
 
   module _ (ys : List Emission) (b : Scan) (t : Scanned D a ys b) where
     pub scanned-asks : Checkable D b
-    scanned-asks g = rw (t .same-head) (still-checkable (a .head) (routesIn D) (placesIn D) (horizonsIn D) (batchIn D) (a .check) d (replyOf ys) (b .check) (t .checked) g)
+    scanned-asks g = rw (t .same-head) (still-checkable (a .head) (routesIn D) (placesIn D) (processesIn D) (batchIn D) (a .check) d (replyOf ys) (b .check) (t .checked) g)
 
     pub scanned-more : (e : Emission) (r : Scan) → ChecksNext D b e r → Scanned D a (ys ++ (e ∷ [])) r
     scanned-more e r s = record {
       same-head = s .same-head ∙ t .same-head;
-      checked = rw (map-snoc emissionOf ys e) (checked-more (a .head) (routesIn D) (placesIn D) (horizonsIn D) (batchIn D) (a .check) d (replyOf ys) (b .check) (t .checked) e (r .check) (rw (t .same-head) at (s .checks)));
+      checked = rw (map-snoc emissionOf ys e) (checked-more (a .head) (routesIn D) (placesIn D) (processesIn D) (batchIn D) (a .check) d (replyOf ys) (b .check) (t .checked) e (r .check) (rw (t .same-head) at (s .checks)));
     }
 
 -- The second pass.

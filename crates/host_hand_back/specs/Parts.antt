@@ -6,6 +6,8 @@ use Prim.Native.Nat.{ℕ, _*_, _≤_}
 use lib.ListN.{length}
 use Rattle.rules.specs.HandBack as Rule
 use Rattle.rules.specs.Calls.{HandBack}
+use Rattle.records.specs.Records.{edgesOf}
+use Rattle.edges.specs.Routes.{Routes}
 use Rattle.reply_words.specs.declared.Emission.{Emission}
 use Rattle.hand_back_check.specs.declared.ReplyCheck.{ReplyCheck}
 use Rattle.hand_back_end.specs.EndsRound.{Poisons}
@@ -22,28 +24,34 @@ use Rattle.runtime.specs.Executes.{Executes}
 use Rattle.host_hand_back.specs.declared.Scan.{Scan}
 use Rattle.host_hand_back.specs.declared.Opened.{Opened}
 use Rattle.host_hand_back.specs.declared.Admission.{Admission}
-use Rattle.host_hand_back.specs.Passes.{replyOf, routesIn, placesIn, horizonsIn, batchIn, Begun, Scanned, Queued}
+use Rattle.host_hand_back.specs.Passes.{replyOf, routesIn, placesIn, processesIn, batchIn, Begun, Scanned, Queued}
 
 -- A runtime by its parts, and where the first pass of a reply to it starts.
 abbrev pub runtimeOf : Header → List ℕ → List ℕ → List ℕ → List ℕ → Runtime
-runtimeOf h E Q Z B = record { edges = E; pending = Q; horizons = Z; batch = B; head = h }
+runtimeOf h E Q Z B = record { edges = E; pending = Q; processes = Z; batch = B; head = h }
 
 abbrev pub openedOf : Header → ReplyCheck → List ℕ → Opened
 openedOf h a D = record { words = D; scan = record { head = h; check = a } }
 
--- The words D for a reply with this mask, and where its check starts.
-pub record Tabled (h : Header) (edges horizons batch : List ℕ) (mask : ℕ) (a : ReplyCheck) (D : List ℕ) : Type 0 where
-  pub begins : Begins h edges batch mask a (routesIn D) (placesIn D)
-  pub horizons-are : horizonsIn D ≡ horizons
+-- The words D have the routes, the table of the processes and the batch.
+pub record Tables (h : Header) (edges processes batch D : List ℕ) : Type 0 where
+  pub routes : Routes (edgesOf (h .edges) edges) (routesIn D)
+  pub route-words : length (routesIn D) ≡ 64
+  pub processes-are : processesIn D ≡ processes
   pub batch-is : batchIn D ≡ batch
+
+-- Where the check of a reply with this mask starts; if it goes on, D is the words for its first pass.
+pub record Tabled (h : Header) (edges processes batch : List ℕ) (mask : ℕ) (a : ReplyCheck) (D : List ℕ) : Type 0 where
+  pub begins : Begins h batch mask a (placesIn D)
+  pub tables : a .going ≡ true → Tables h edges processes batch D
 
 -- The first pass of a reply with this mask to the runtime s may start. Where it does not go on, hand back is refused so whatever is emitted, with state and counters as given.
 pub record Opens (s : Runtime) (mask : ℕ) (o : Opened) : Type 0 where
   pub same-head : o .scan .head ≡ s .head
   pub begun : Begun (o .words) (o .scan)
   pub refused : o .scan .check .going ≡ false → (xs : List Rule.Emission) (c : Counters) → Executes (HandBack mask xs) s c (o .scan .check .outcome .answer) s c
-  pub lent : o .scan .check .going ≡ true → ValidArrays (s .head) (s .edges) (s .pending) (s .horizons) (s .batch)
-  pub tabled : o .scan .check .going ≡ true → Tabled (s .head) (s .edges) (s .horizons) (s .batch) mask (o .scan .check) (o .words)
+  pub lent : o .scan .check .going ≡ true → ValidArrays (s .head) (s .edges) (s .pending) (s .processes) (s .batch)
+  pub tabled : o .scan .check .going ≡ true → Tabled (s .head) (s .edges) (s .processes) (s .batch) mask (o .scan .check) (o .words)
 
 -- What 27 to 33, 19 and 18 say of k emissions, and where the first of them would go.
 pub record AdmissionOf (a : ReplyCheck) (h : Header) (k : ℕ) (r : Admission) : Type 0 where
@@ -59,7 +67,7 @@ givenBack s c a = record { answer = a .outcome .answer; state = s; counters = c 
 -- What closing asks, with the emissions queued: that the round can be lost where the check went on, and that it can end where it is admitted.
 pub record Closable (s : Runtime) (a : Scan) (b : Admission) (k : ℕ) : Type 0 where
   pub batch-words : a .check .going ≡ true → 8 * s .head .batch ≤ length (s .batch)
-  pub can-end : a .check .going ≡ true → b .outcome .passed ≡ true → CanEnd (s .head) (s .edges) (s .pending) (s .horizons) (s .batch) k
+  pub can-end : a .check .going ≡ true → b .outcome .passed ≡ true → CanEnd (s .head) (s .pending) (s .processes) (s .batch) k
 
 -- What a call leaves, as a core would.
 abbrev pub afterOf : CallResult → CoreResult
@@ -67,17 +75,17 @@ afterOf r = record { answer = r .answer; head = r .state .head; counters = r .co
 
 -- The round is ended, with its emissions in the pending words of s.
 pub record CommitsTo (s : Runtime) (c : Counters) (a : ReplyCheck) (k : ℕ) (r : CallResult) : Type 0 where
-  pub left : r .state ≡ record { edges = s .edges; pending = s .pending; horizons = r .state .horizons; batch = r .state .batch; head = r .state .head }
-  pub ends : Ends (s .head) c (s .edges) (s .pending) (s .horizons) (s .batch) (a .remote) k (afterOf r) (r .state .horizons) (r .state .batch)
+  pub left : r .state ≡ record { edges = s .edges; pending = s .pending; processes = r .state .processes; batch = r .state .batch; head = r .state .head }
+  pub ends : Ends (s .head) c (s .pending) (s .processes) (s .batch) (a .remote) k (afterOf r) (r .state .processes) (r .state .batch)
 
 -- The round is lost with the answer x.
 pub record PoisonsTo (s : Runtime) (c : Counters) (x : Answer) (r : CallResult) : Type 0 where
-  pub left : r .state ≡ record { edges = s .edges; pending = s .pending; horizons = s .horizons; batch = r .state .batch; head = r .state .head }
+  pub left : r .state ≡ record { edges = s .edges; pending = s .pending; processes = s .processes; batch = r .state .batch; head = r .state .head }
   pub poisons : Poisons x (s .head) c (afterOf r)
 
 -- The runtime s with the pending words Q.
 abbrev pub withPending : Runtime → List ℕ → Runtime
-withPending s Q = runtimeOf (s .head) (s .edges) Q (s .horizons) (s .batch)
+withPending s Q = runtimeOf (s .head) (s .edges) Q (s .processes) (s .batch)
 
 -- If the k emissions ys were passed twice, which made the pending words of s out of Q, the call is hand back of them to the runtime with the pending words Q.
 unfoldable pub Closes : Runtime → Counters → Scan → Admission → ℕ → CallResult → Type 0

@@ -22,15 +22,15 @@ replyOf ys = map emissionOf ys
 unfoldable pub Copied : ℕ → List ℕ → List ℕ → List ℕ → Type 0
 Copied at from w u = take (at + length from) u ≡ take at w ++ from
 
-pub record Sizes (routes places horizons batch : List ℕ) : Type 0 where
+pub record Sizes (routes places processes batch : List ℕ) : Type 0 where
   pub route-words : length routes ≡ 64
   pub place-words : length places ≡ 64
-  pub horizon-words : length horizons ≡ 128
+  pub process-words : length processes ≡ 256
   pub batch-words : length batch ≡ 512
 
 -- The words that the first pass reads, and their parts.
 abbrev pub tablesOf : List ℕ → List ℕ → List ℕ → List ℕ → List ℕ
-tablesOf routes places horizons batch = ((routes ++ places) ++ horizons) ++ batch
+tablesOf routes places processes batch = ((routes ++ places) ++ processes) ++ batch
 
 abbrev pub routesIn : List ℕ → List ℕ
 routesIn D = take 64 (drop 0 D)
@@ -38,27 +38,27 @@ routesIn D = take 64 (drop 0 D)
 abbrev pub placesIn : List ℕ → List ℕ
 placesIn D = take 64 (drop 64 D)
 
-abbrev pub horizonsIn : List ℕ → List ℕ
-horizonsIn D = take 128 (drop 128 D)
+abbrev pub processesIn : List ℕ → List ℕ
+processesIn D = take 256 (drop 128 D)
 
 abbrev pub batchIn : List ℕ → List ℕ
-batchIn D = take 512 (drop 256 D)
+batchIn D = take 512 (drop 384 D)
 
 -- What checking an emission asks of the words D, and what it leaves.
 abbrev pub Checkable : List ℕ → Scan → Type 0
-Checkable D a = a .check .going ≡ true → Check.Checkable (a .head) (routesIn D) (placesIn D) (horizonsIn D) (batchIn D)
+Checkable D a = a .check .going ≡ true → Check.Checkable (a .head) (routesIn D) (placesIn D) (processesIn D) (batchIn D)
 
 pub record ChecksNext (D : List ℕ) (a : Scan) (e : Emission) (r : Scan) : Type 0 where
   pub same-head : r .head ≡ a .head
-  pub checks : Checks (a .head) (routesIn D) (placesIn D) (horizonsIn D) (batchIn D) (a .check) e (r .check)
+  pub checks : Checks (a .head) (routesIn D) (placesIn D) (processesIn D) (batchIn D) (a .check) e (r .check)
 
 -- The same of all emissions.
 abbrev pub Begun : List ℕ → Scan → Type 0
-Begun D a = Check.CheckStarted (a .head) (routesIn D) (placesIn D) (horizonsIn D) (batchIn D) (a .check)
+Begun D a = Check.CheckStarted (a .head) (routesIn D) (placesIn D) (processesIn D) (batchIn D) (a .check)
 
 pub record Scanned (D : List ℕ) (a : Scan) (ys : List Emission) (r : Scan) : Type 0 where
   pub same-head : r .head ≡ a .head
-  pub checked : Checked (a .head) (routesIn D) (placesIn D) (horizonsIn D) (batchIn D) (a .check) (replyOf ys) (r .check)
+  pub checked : Checked (a .head) (routesIn D) (placesIn D) (processesIn D) (batchIn D) (a .check) (replyOf ys) (r .check)
 
 -- What queueing an emission asks of the pending words, and what it leaves: the words as they were, where the round is not admitted.
 abbrev pub Enqueueable : List ℕ → Admission → Type 0

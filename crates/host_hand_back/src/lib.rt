@@ -27,9 +27,9 @@ pub struct Scan {
 }
 
 // What the first pass reads, and where it starts: the routes from word 0 on, the place of each process's
-// event from 64, the local horizons from 128 and the events in hand from 256.
+// event from 64, the table of the processes from 128 and the events in hand from 384.
 pub struct Opened {
-    pub words: [u64; 768],
+    pub words: [u64; 896],
     pub scan: Scan,
 }
 
@@ -56,34 +56,38 @@ fn fill<'a>(
     words: &mut [u64],
     routes: &'a [u64],
     places: &'a [u64],
-    horizons: &'a [u64],
+    processes: &'a [u64],
     batch: &'a [u64],
 )
-    requires { ⌜ (length (now words) ≡ 768) × Sizes (now routes) (now places) (now horizons) (now batch) ⌝ }
-    ensures { λ _. ⌜ now (words .exit) ≡ tablesOf (now (routes .entry)) (now (places .entry)) (now (horizons .entry)) (now (batch .entry)) ⌝ }
+    requires { ⌜ (length (now words) ≡ 896) × Sizes (now routes) (now places) (now processes) (now batch) ⌝ }
+    ensures { λ _. ⌜ now (words .exit) ≡ tablesOf (now (routes .entry)) (now (places .entry)) (now (processes .entry)) (now (batch .entry)) ⌝ }
 {
     copy_at(words, 0, routes);
     copy_at(words, 64, places);
-    copy_at(words, 128, horizons);
-    copy_at(words, 256, batch);
+    copy_at(words, 128, processes);
+    copy_at(words, 384, batch);
 }
 
-// 12, 25 and 26 of the mask; and the words that the first pass reads.
+// 12, 25 and 26 of the mask; and the words that the first pass reads, where none of them refuses.
 fn make_tables<'a>(
     head: Header,
     edges: &'a [u64],
-    horizons: &'a [u64],
+    processes: &'a [u64],
     batch: &'a [u64],
     mask: u64,
     words: &mut [u64],
 ) -> ReplyCheck
-    requires { ⌜ Ready head (now edges) (now batch) × (length (now horizons) ≡ 128) × (length (now batch) ≡ 512) × (length (now words) ≡ 768) ⌝ }
-    ensures { λ r. ⌜ Tabled head (now (edges .entry)) (now (horizons .entry)) (now (batch .entry)) mask r (now (words .exit)) ⌝ }
+    requires { ⌜ Ready head (now edges) (now batch) × (length (now processes) ≡ 256) × (length (now batch) ≡ 512) × (length (now words) ≡ 896) ⌝ }
+    ensures { λ r. ⌜ Tabled head (now (edges .entry)) (now (processes .entry)) (now (batch .entry)) mask r (now (words .exit)) ⌝ }
 {
-    let mut routes = [0u64; 64];
     let mut places = [0u64; 64];
-    let start = hand_back::begin_check(head, edges, batch, mask, &mut routes, &mut places);
-    fill(words, &routes, &places, horizons, batch);
+    let start = hand_back::begin_check(head, batch, mask, &mut places);
+    if !start.going {
+        return start;
+    }
+    let mut routes = [0u64; 64];
+    edges::find_routes(edges, head.edges, &mut routes);
+    fill(words, &routes, &places, processes, batch);
     start
 }
 
@@ -92,31 +96,31 @@ fn begin<'a>(
     head: Header,
     edges: &'a [u64],
     pending: &'a [u64],
-    horizons: &'a [u64],
+    processes: &'a [u64],
     batch: &'a [u64],
     mask: u64,
     words: &mut [u64],
 ) -> ReplyCheck
-    requires { ⌜ (length (now edges) ≡ 2048) × (length (now pending) ≡ 4096) × (length (now horizons) ≡ 128) × (length (now batch) ≡ 512) × (length (now words) ≡ 768) ⌝ }
-    ensures { λ r. ⌜ Opens (runtimeOf head (now (edges .entry)) (now (pending .entry)) (now (horizons .entry)) (now (batch .entry))) mask (openedOf head r (now (words .exit))) ⌝ }
+    requires { ⌜ (length (now edges) ≡ 2048) × (length (now pending) ≡ 4096) × (length (now processes) ≡ 256) × (length (now batch) ≡ 512) × (length (now words) ≡ 896) ⌝ }
+    ensures { λ r. ⌜ Opens (runtimeOf head (now (edges .entry)) (now (pending .entry)) (now (processes .entry)) (now (batch .entry))) mask (openedOf head r (now (words .exit))) ⌝ }
 {
-    if is_foreign(head, edges, pending, batch) {
+    if is_foreign(head, edges, pending, processes, batch) {
         let start = hand_back_check::start(mask, MAX_PROCESSES);
         return hand_back_check::refuse(start, Answer::ForeignState);
     }
-    make_tables(head, edges, horizons, batch, mask, words)
+    make_tables(head, edges, processes, batch, mask, words)
 }
 
 pub fn open(state: Runtime, mask: u64) -> Opened
     ensures { λ r. ⌜ Opens state mask r ⌝ }
 {
     let head = state.head;
-    let mut words = [0u64; 768];
+    let mut words = [0u64; 896];
     let check = begin(
         head,
         &state.edges,
         &state.pending,
-        &state.horizons,
+        &state.processes,
         &state.batch,
         mask,
         &mut words,
@@ -132,23 +136,23 @@ pub fn open(state: Runtime, mask: u64) -> Opened
 
 // One emission of the first pass.
 fn check_in(words: &[u64], a: Scan, e: Emission) -> Scan
-    requires { ⌜ (length (now words) ≡ 768) × Checkable (now words) a ⌝ }
+    requires { ⌜ (length (now words) ≡ 896) × Checkable (now words) a ⌝ }
     ensures { λ r. ⌜ ChecksNext (now (words .entry)) a e r ⌝ }
 {
     let routes = &words[0..64];
     let places = &words[64..128];
-    let horizons = &words[128..256];
-    let batch = &words[256..768];
+    let processes = &words[128..384];
+    let batch = &words[384..896];
     let head = a.head;
     let so_far = a.check;
-    let check = hand_back_check::check(head, routes, places, horizons, batch, so_far, e);
+    let check = hand_back_check::check(head, routes, places, processes, batch, so_far, e);
     Scan {
         head: head,
         check: check,
     }
 }
 
-pub fn check_next(words: &[u64; 768], a: Scan, e: Emission) -> Scan
+pub fn check_next(words: &[u64; 896], a: Scan, e: Emission) -> Scan
     requires { ⌜ Checkable (now words) a ⌝ }
     ensures { λ r. ⌜ ChecksNext (now (words .entry)) a e r ⌝ }
 {
@@ -221,18 +225,17 @@ fn as_given(state: Runtime, counters: Counters, check: ReplyCheck) -> CallResult
 
 // The round, whose emissions are queued, is ended.
 fn commit(state: Runtime, counters: Counters, check: ReplyCheck, emitted: usize) -> CallResult
-    requires { ⌜ CanEnd (state .head) (state .edges) (state .pending) (state .horizons) (state .batch) emitted ⌝ }
+    requires { ⌜ CanEnd (state .head) (state .pending) (state .processes) (state .batch) emitted ⌝ }
     ensures { λ r. ⌜ CommitsTo state counters check emitted r ⌝ }
 {
     let head = state.head;
-    let mut horizons = state.horizons;
+    let mut processes = state.processes;
     let mut batch = state.batch;
     let ended = hand_back_commit::commit_round(
         head,
         counters,
-        &state.edges,
         &state.pending,
-        &mut horizons,
+        &mut processes,
         &mut batch,
         check.remote,
         emitted,
@@ -247,7 +250,7 @@ fn commit(state: Runtime, counters: Counters, check: ReplyCheck, emitted: usize)
         state: Runtime {
             edges: edges,
             pending: pending,
-            horizons: horizons,
+            processes: processes,
             batch: batch,
             head: left,
         },

@@ -16,12 +16,11 @@ use Rattle.rules.specs.Answers.{Accepted, number}
 use Rattle.rules.specs.Build.{Setup, setup, built, build}
 use Rattle.rules.proofs.Demand.{sound-built}
 use Rattle.state.specs.declared.Header.{Header}
-use Rattle.build_edges.specs.Written.{Writable}
 use Rattle.build.specs.declared.BuildAnswer.{BuildAnswer}
 use Rattle.build.specs.Checks.{answerOf, ChecksBuild}
 use Rattle.build.specs.Numbers.{numberOf}
-use Rattle.build.specs.Initialized.{Initializes}
-use Rattle.build.proofs.Initializing.{writable}
+use Rattle.build.specs.Initialized.{CanInitialize, Initializes}
+use Rattle.build.proofs.Initializing as making
 use Rattle.build.proofs.Numbering.{numbered}
 use Rattle.plan_file.specs.Plan.{PlanEdge, Plan}
 use Rattle.plan_file.specs.Format.{Got.got, gets}
@@ -94,11 +93,11 @@ module _ (s : List ℕ) (parts : Parts) (header : PlanHeader) (ids sources count
   accepted-lists : build (setupOf (planOf s)) R.zeros .answer ≡ Accepted → build lists R.zeros .answer ≡ Accepted
   accepted-lists a = ap (λ (x : Setup). build x R.zeros .answer) (i .lists) ∙ a
 
-  pub can-initialize : build (setupOf (planOf s)) R.zeros .answer ≡ Accepted → Writable sources counts ds (zeroes 2048)
-  can-initialize a = writable (header .n) (durationOf (header .lookahead)) ids sources counts ds R.zeros (zeroes 2048) (accepted-lists a) refl
+  pub can-initialize : build (setupOf (planOf s)) R.zeros .answer ≡ Accepted → CanInitialize (header .n) (durationOf (header .lookahead)) sources counts ds (zeroes 2048) (zeroes 256)
+  can-initialize a = making.can-initialize (header .n) (durationOf (header .lookahead)) ids sources counts ds R.zeros (zeroes 2048) (accepted-lists a) refl
 
-  pub built-is : build (setupOf (planOf s)) R.zeros .answer ≡ Accepted → (E : List ℕ) (h : Header) → length E ≡ 2048 → Initializes (header .n) (durationOf (header .lookahead)) sources counts ds (zeroes 2048) E h → Built (planOf s) h E
-  built-is a E h l j = record { accepted = a; state = sym (j .state ids (zeroes 4096) (zeroes 512) 128 ∙ ap built (i .lists)); edge-words = l }
+  pub built-is : build (setupOf (planOf s)) R.zeros .answer ≡ Accepted → (E Z : List ℕ) (h : Header) → length E ≡ 2048 → length Z ≡ 256 → Initializes (header .n) (durationOf (header .lookahead)) sources counts ds (zeroes 2048) E Z h → Built (planOf s) h E Z
+  built-is a E Z h l m j = record { accepted = a; state = sym (j .state ids (zeroes 4096) (zeroes 512) ∙ ap built (i .lists)); edge-words = l; process-words = m }
 
   pub long-is : build (setupOf (planOf s)) R.zeros .answer ≡ Accepted → (t : SimTime) → ticksOf t ≡ planOf s .horizon → (r : Bool) → r ≡ leb (65537 * durationOf (header .lookahead)) (ticksOf t) → r ≡ tooLong (planOf s)
   long-is a t e r f =

@@ -70,6 +70,7 @@ fn rehearse_accepted<'a>(
     ensures { λ r. ⌜ Rehearses (now (file .entry)) (now (listing .entry)) (now (listing .exit)) r ⌝ }
 {
     let mut edges = [0u64; 2048];
+    let mut processes = [0u64; 256];
     let lookahead = header.lookahead;
     let built = build::initialize(
         header.n,
@@ -78,6 +79,7 @@ fn rehearse_accepted<'a>(
         counts,
         destinations,
         &mut edges,
+        &mut processes,
     );
     let mut table = [0u64; 2112];
     plan_replies::find_replies(file, parts.replies_at, parts.replies, &mut table);
@@ -85,6 +87,7 @@ fn rehearse_accepted<'a>(
     let fits = plan_run::run_built(
         built,
         &mut edges,
+        &mut processes,
         horizon,
         header.budget,
         file,

@@ -32,11 +32,11 @@ unfoldable pub planOf : List ℕ → Plan
 planOf s = contentsOf (decode s)
 
 -- The header, the counters and the arrays are those of the run after k calls.
-pub record Reached (p : Plan) (k : ℕ) (h : Header) (c : Counters) (edges pending horizons batch : List ℕ) : Type 0 where
+pub record Reached (p : Plan) (k : ℕ) (h : Header) (c : Counters) (edges pending processes batch : List ℕ) : Type 0 where
   pub accepted : build (setupOf p) R.zeros .answer ≡ Accepted
-  pub state : run p k .now ≡ view h edges pending horizons batch
+  pub state : run p k .now ≡ view h edges pending processes batch
   pub counters : run p k .counters ≡ countersOf c
-  pub lent : ValidArrays h edges pending horizons batch
+  pub lent : ValidArrays h edges pending processes batch
 
 -- The table leads to the replies that are left after k calls, and the reply has room for all of them; the calls can be counted.
 pub record Replying (s : List ℕ) (k : ℕ) (table reply : List ℕ) : Type 0 where
@@ -50,15 +50,15 @@ abbrev pub ListedSoFar : Plan → ℕ → List ℕ → ℕ → Type 0
 ListedSoFar p k listing at = Listed listing at (handledLines (run p k .entries))
 
 -- Before a step.
-pub record Stepping (s : List ℕ) (k : ℕ) (h : Header) (c : Counters) (edges pending horizons batch table reply listing : List ℕ) (at : ℕ) : Type 0 where
-  pub reached : Reached (planOf s) k h c edges pending horizons batch
+pub record Stepping (s : List ℕ) (k : ℕ) (h : Header) (c : Counters) (edges pending processes batch table reply listing : List ℕ) (at : ℕ) : Type 0 where
+  pub reached : Reached (planOf s) k h c edges pending processes batch
   pub next-is : next (planOf s) (run (planOf s) k .entries) ≡ some Step
   pub replying : Replying s k table reply
   pub listed : ListedSoFar (planOf s) k listing at
 
 -- With a batch in hand.
-pub record Holding (s : List ℕ) (k : ℕ) (h : Header) (c : Counters) (edges pending horizons batch table reply listing : List ℕ) (at : ℕ) : Type 0 where
-  pub reached : Reached (planOf s) k h c edges pending horizons batch
+pub record Holding (s : List ℕ) (k : ℕ) (h : Header) (c : Counters) (edges pending processes batch table reply listing : List ℕ) (at : ℕ) : Type 0 where
+  pub reached : Reached (planOf s) k h c edges pending processes batch
   pub next-is : next (planOf s) (run (planOf s) k .entries) ≡ some (HandBack 0 (due (left (planOf s) (run (planOf s) k .entries)) (run (planOf s) k .now .batch)))
   pub replying : Replying s k table reply
   pub listed : ListedSoFar (planOf s) k listing at

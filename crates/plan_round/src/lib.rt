@@ -36,7 +36,7 @@ fn reply_to_batch<'a>(
     counters: Counters,
     edges: &'a [u64],
     pending: &mut [u64],
-    horizons: &mut [u64],
+    processes: &mut [u64],
     batch: &mut [u64],
     file: &'a [u8],
     table: &mut [u64],
@@ -45,8 +45,8 @@ fn reply_to_batch<'a>(
     at: usize,
     calls: usize,
 ) -> Turn
-    requires { ⌜ Holding (now file) calls head counters (now edges) (now pending) (now horizons) (now batch) (now table) (now reply) (now listing) at ⌝ }
-    ensures { λ r. ⌜ Turns (now (file .entry)) calls r (now (edges .entry)) (now (pending .exit)) (now (horizons .exit)) (now (batch .exit)) (now (table .exit)) (now (reply .exit)) (now (listing .exit)) ⌝ }
+    requires { ⌜ Holding (now file) calls head counters (now edges) (now pending) (now processes) (now batch) (now table) (now reply) (now listing) at ⌝ }
+    ensures { λ r. ⌜ Turns (now (file .entry)) calls r (now (edges .entry)) (now (pending .exit)) (now (processes .exit)) (now (batch .exit)) (now (table .exit)) (now (reply .exit)) (now (listing .exit)) ⌝ }
 {
     let listed = plan_text::put_batch(listing, at, batch, head.batch);
     let emitted = plan_replies::fill_reply(file, batch, head.batch, table, reply);
@@ -55,7 +55,7 @@ fn reply_to_batch<'a>(
         counters,
         edges,
         pending,
-        horizons,
+        processes,
         batch,
         0,
         &reply[..8 * emitted],
@@ -79,7 +79,7 @@ pub fn take_turn<'a>(
     counters: Counters,
     edges: &mut [u64],
     pending: &mut [u64],
-    horizons: &mut [u64],
+    processes: &mut [u64],
     batch: &mut [u64],
     file: &'a [u8],
     table: &mut [u64],
@@ -88,10 +88,10 @@ pub fn take_turn<'a>(
     at: usize,
     calls: usize,
 ) -> Turn
-    requires { ⌜ Stepping (now file) calls head counters (now edges) (now pending) (now horizons) (now batch) (now table) (now reply) (now listing) at ⌝ }
-    ensures { λ r. ⌜ Turns (now (file .entry)) calls r (now (edges .exit)) (now (pending .exit)) (now (horizons .exit)) (now (batch .exit)) (now (table .exit)) (now (reply .exit)) (now (listing .exit)) ⌝ }
+    requires { ⌜ Stepping (now file) calls head counters (now edges) (now pending) (now processes) (now batch) (now table) (now reply) (now listing) at ⌝ }
+    ensures { λ r. ⌜ Turns (now (file .entry)) calls r (now (edges .exit)) (now (pending .exit)) (now (processes .exit)) (now (batch .exit)) (now (table .exit)) (now (reply .exit)) (now (listing .exit)) ⌝ }
 {
-    let stepped = step::step(head, counters, edges, pending, horizons, batch);
+    let stepped = step::step(head, counters, edges, pending, processes, batch);
     let h = stepped.head;
     let c = stepped.counters;
     if 0 < h.batch {
@@ -100,7 +100,7 @@ pub fn take_turn<'a>(
             c,
             edges,
             pending,
-            horizons,
+            processes,
             batch,
             file,
             table,

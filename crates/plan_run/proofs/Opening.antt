@@ -93,23 +93,23 @@ after-begin p es h b r s c =
 abbrev withZero : HeaderResult → CoreResult
 withZero r = record { answer = r .answer; head = r .head; counters = zeroCounters }
 
-module _ (p : Plan) (k : ℕ) (h : Header) (E Q : List ℕ) (i : Before p k h E Q) (call : Call) (n : next p (run p k .entries) ≡ some call) (other : isHandBack call ≡ false) (r : HeaderResult) (Q′ : List ℕ) (q : length Q′ ≡ length Q)
-    (g : out (answerOf (eventsOf (r .head .batch) (zeroes 512)) (r .answer)) (view (r .head) E Q′ (zeroes 128) (zeroes 512)) (countersOf zeroCounters) ≡ rule (view h E Q (zeroes 128) (zeroes 512)) (countersOf zeroCounters) call) where
+module _ (p : Plan) (k : ℕ) (h : Header) (E Q Z : List ℕ) (i : Before p k h E Q Z) (call : Call) (n : next p (run p k .entries) ≡ some call) (other : isHandBack call ≡ false) (r : HeaderResult) (Q′ : List ℕ) (q : length Q′ ≡ length Q)
+    (g : out (answerOf (eventsOf (r .head .batch) (zeroes 512)) (r .answer)) (view (r .head) E Q′ Z (zeroes 512)) (countersOf zeroCounters) ≡ rule (view h E Q Z (zeroes 512)) (countersOf zeroCounters) call) where
   abbrev given : Out
-  given = rule (view h E Q (zeroes 128) (zeroes 512)) (countersOf zeroCounters) call
+  given = rule (view h E Q Z (zeroes 512)) (countersOf zeroCounters) call
 
   abbrev last : Entry
   last = entry (run p k .now) call given
 
   pub entries-are : run p (k + 1) .entries ≡ last ∷ run p k .entries
-  entries-are = entries-next p k h zeroCounters E Q (zeroes 128) (zeroes 512) (i .reached) call n (withZero r) E Q′ (zeroes 128) (zeroes 512) g
+  entries-are = entries-next p k h zeroCounters E Q Z (zeroes 512) (i .reached) call n (withZero r) E Q′ Z (zeroes 512) g
 
   nothing-commits : commits last ≡ false
   nothing-commits = commits-other last other
 
-  pub before-next : Before p (k + 1) (r .head) E Q′
+  pub before-next : Before p (k + 1) (r .head) E Q′ Z
   before-next = record {
-    reached = reached-next p k h zeroCounters E Q (zeroes 128) (zeroes 512) (i .reached) call n (withZero r) E Q′ (zeroes 128) (zeroes 512) g refl q refl refl;
+    reached = reached-next p k h zeroCounters E Q Z (zeroes 512) (i .reached) call n (withZero r) E Q′ Z (zeroes 512) g refl q refl refl;
     nothing-left-out = ap (left p) entries-are ∙ left-same p last (run p k .entries) nothing-commits ∙ i .nothing-left-out;
     no-lines = ap handledLines entries-are ∙ lines-same last (run p k .entries) nothing-commits ∙ i .no-lines;
   }
@@ -118,18 +118,18 @@ module _ (p : Plan) (k : ℕ) (h : Header) (E Q : List ℕ) (i : Before p k h E 
   number-is m e = e ∙ numbered (eventsOf (r .head .batch) (zeroes 512)) (r .answer) (given .answer) (ap (λ (o : Out). o .answer) g)
 
   pub last-number : (m : ℕ) → m ≡ numberOf (r .answer) → m ≡ lastNumber (run p (k + 1) .entries)
-  last-number m e = number-next p k h zeroCounters E Q (zeroes 128) (zeroes 512) (i .reached) call n (withZero r) E Q′ (zeroes 128) (zeroes 512) g m e
+  last-number m e = number-next p k h zeroCounters E Q Z (zeroes 512) (i .reached) call n (withZero r) E Q′ Z (zeroes 512) g m e
 
 -- What add initial asks.
-pub can-add : (s : List ℕ) (k at : ℕ) (h : Header) (E Q : List ℕ) → Adding s k at h E Q → (4 * h .edges ≤ length E) × CanEnqueue h Q
-can-add s k at h E Q i =
+pub can-add : (s : List ℕ) (k at : ℕ) (h : Header) (E Q Z : List ℕ) → Adding s k at h E Q Z → (4 * h .edges ≤ length E) × CanEnqueue h Q
+can-add s k at h E Q Z i =
     let l = i .before .reached .lent in (
-      omega (arith, l .edge-words, few-edges h E Q (zeroes 128) (zeroes 512) (l .passes)),
-      record { pending-words = l .pending-words; order = in-order h E Q (zeroes 128) (zeroes 512) (l .passes); newest = newest h E Q (zeroes 128) (zeroes 512) (l .passes) },
+      omega (arith, l .edge-words, few-edges h E Q Z (zeroes 512) (l .passes)),
+      record { pending-words = l .pending-words; order = in-order h E Q Z (zeroes 512) (l .passes); newest = newest h E Q Z (zeroes 512) (l .passes) },
     )
 
 -- One initial event more.
-module _ (s : List ℕ) (k at : ℕ) (h : Header) (E Q : List ℕ) (i : Adding s k at h E Q) (l : k < length (planOf s .initial)) where
+module _ (s : List ℕ) (k at : ℕ) (h : Header) (E Q Z : List ℕ) (i : Adding s k at h E Q Z) (l : k < length (planOf s .initial)) where
   abbrev p : Plan
   p = planOf s
 
@@ -146,36 +146,36 @@ module _ (s : List ℕ) (k at : ℕ) (h : Header) (E Q : List ℕ) (i : Adding s
     next-is : next p (run p k .entries) ≡ some (AddInitial event)
     next-is = i .next-is ∙ ap some (opening-adds p (run p k .entries) k _ (i .added) l)
 
-    gives : out (answerOf (eventsOf (r .head .batch) (zeroes 512)) (r .answer)) (view (r .head) E Q′ (zeroes 128) (zeroes 512)) (countersOf zeroCounters) ≡ rule (view h E Q (zeroes 128) (zeroes 512)) (countersOf zeroCounters) (AddInitial event)
+    gives : out (answerOf (eventsOf (r .head .batch) (zeroes 512)) (r .answer)) (view (r .head) E Q′ Z (zeroes 512)) (countersOf zeroCounters) ≡ rule (view h E Q Z (zeroes 512)) (countersOf zeroCounters) (AddInitial event)
     unfolding rule
     gives =
-        g .gives (zeroes 128) (zeroes 512) (countersOf zeroCounters) (i .before .reached .lent .passes)
-        ∙ sym (long-payloads .initial (view h E Q (zeroes 128) (zeroes 512)) (countersOf zeroCounters) event (messageOf (m .message)) (read .like event (afterFirst here) (first-stands here)))
+        g .gives Z (zeroes 512) (countersOf zeroCounters) (i .before .reached .lent .passes)
+        ∙ sym (long-payloads .initial (view h E Q Z (zeroes 512)) (countersOf zeroCounters) event (messageOf (m .message)) (read .like event (afterFirst here) (first-stands here)))
 
     abbrev added-now : Out
-    added-now = rule (view h E Q (zeroes 128) (zeroes 512)) (countersOf zeroCounters) (AddInitial event)
+    added-now = rule (view h E Q Z (zeroes 512)) (countersOf zeroCounters) (AddInitial event)
 
     no-hand-back : isHandBack (AddInitial event) ≡ false
     unfolding isHandBack
     no-hand-back = refl
 
-    before-it : Before p (k + 1) (r .head) E Q′
-    before-it = before-next p k h E Q (i .before) (AddInitial event) next-is no-hand-back r Q′ q gives
+    before-it : Before p (k + 1) (r .head) E Q′ Z
+    before-it = before-next p k h E Q Z (i .before) (AddInitial event) next-is no-hand-back r Q′ q gives
 
     entries-now : run p (k + 1) .entries ≡ entry (run p k .now) (AddInitial event) added-now ∷ run p k .entries
-    entries-now = entries-are p k h E Q (i .before) (AddInitial event) next-is no-hand-back r Q′ q gives
+    entries-now = entries-are p k h E Q Z (i .before) (AddInitial event) next-is no-hand-back r Q′ q gives
 
     follows-it : AfterInitial p (run p k .entries) event (entry (run p k .now) (AddInitial event) added-now .raises) added-now
     unfolding rule
-    follows-it = after-initial p (run p k .entries) event _ (view h E Q (zeroes 128) (zeroes 512)) (countersOf zeroCounters)
+    follows-it = after-initial p (run p k .entries) event _ (view h E Q Z (zeroes 512)) (countersOf zeroCounters)
 
     number-now : n ≡ number (added-now .answer)
-    number-now = number-is p k h E Q (i .before) (AddInitial event) next-is no-hand-back r Q′ q gives n e
+    number-now = number-is p k h E Q Z (i .before) (AddInitial event) next-is no-hand-back r Q′ q gives n e
 
     number-last : n ≡ lastNumber (run p (k + 1) .entries)
-    number-last = last-number p k h E Q (i .before) (AddInitial event) next-is no-hand-back r Q′ q gives n e
+    number-last = last-number p k h E Q Z (i .before) (AddInitial event) next-is no-hand-back r Q′ q gives n e
 
-    pub adding-more : n ≡ 0 → Adding s (k + 1) (m .next) (r .head) E Q′
+    pub adding-more : n ≡ 0 → Adding s (k + 1) (m .next) (r .head) E Q′ Z
     adding-more z =
         let a : added-now .answer ≡ Accepted = follows-it .goes (sym number-now ∙ z) in
         let j : suc k ≡ k + 1 = omega arith in
@@ -190,7 +190,7 @@ module _ (s : List ℕ) (k at : ℕ) (h : Header) (E Q : List ℕ) (i : Adding s
           countable = i .countable;
         }
 
-    pub adding-refused : 0 < n → Adds s (record { head = r .head; number = n; calls = k + 1 }) E Q′
+    pub adding-refused : 0 < n → Adds s (record { head = r .head; number = n; calls = k + 1 }) E Q′ Z
     adding-refused z = record {
       before = before-it;
       number = number-last;
@@ -199,8 +199,8 @@ module _ (s : List ℕ) (k at : ℕ) (h : Header) (E Q : List ℕ) (i : Adding s
       few = omega (arith, i .countable);
     }
 
-pub all-added : (s : List ℕ) (k at : ℕ) (h : Header) (E Q : List ℕ) → Adding s k at h E Q → length (planOf s .initial) ≤ k → Adds s (record { head = h; number = 0; calls = k }) E Q
-all-added s k at h E Q i l = record {
+pub all-added : (s : List ℕ) (k at : ℕ) (h : Header) (E Q Z : List ℕ) → Adding s k at h E Q Z → length (planOf s .initial) ≤ k → Adds s (record { head = h; number = 0; calls = k }) E Q Z
+all-added s k at h E Q Z i l = record {
   before = i .before;
   number = i .number;
   goes = λ _. i .next-is ∙ ap some (opening-begins (planOf s) (run (planOf s) k .entries) (omega (arith, i .added)));
@@ -209,44 +209,44 @@ all-added s k at h E Q i l = record {
 }
 
 -- Begin.
-module _ (s : List ℕ) (o : Opened) (E Q : List ℕ) (i : Adds s o E Q) (z : o .number ≡ 0) (t : SimTime) (b : ℕ) (with : Begun s t b) (r : HeaderResult) (g : Begins (o .head) t b r) (n : ℕ) (e : n ≡ numberOf (r .answer)) where
+module _ (s : List ℕ) (o : Opened) (E Q Z : List ℕ) (i : Adds s o E Q Z) (z : o .number ≡ 0) (t : SimTime) (b : ℕ) (with : Begun s t b) (r : HeaderResult) (g : Begins (o .head) t b r) (n : ℕ) (e : n ≡ numberOf (r .answer)) where
   abbrev plan : Plan
   plan = planOf s
 
   abbrev begin-call : Call
   begin-call = Begin (plan .horizon) (plan .budget)
 
-  begin-gives : out (answerOf (eventsOf (r .head .batch) (zeroes 512)) (r .answer)) (view (r .head) E Q (zeroes 128) (zeroes 512)) (countersOf zeroCounters) ≡ rule (view (o .head) E Q (zeroes 128) (zeroes 512)) (countersOf zeroCounters) begin-call
+  begin-gives : out (answerOf (eventsOf (r .head .batch) (zeroes 512)) (r .answer)) (view (r .head) E Q Z (zeroes 512)) (countersOf zeroCounters) ≡ rule (view (o .head) E Q Z (zeroes 512)) (countersOf zeroCounters) begin-call
   unfolding rule
   begin-gives =
-      g .gives E Q (zeroes 128) (zeroes 512) (countersOf zeroCounters) (i .before .reached .lent .passes)
-      ∙ (λ j. begin (view (o .head) E Q (zeroes 128) (zeroes 512)) (countersOf zeroCounters) (with .horizon-is j) (with .budget-is j))
+      g .gives E Q Z (zeroes 512) (countersOf zeroCounters) (i .before .reached .lent .passes)
+      ∙ (λ j. begin (view (o .head) E Q Z (zeroes 512)) (countersOf zeroCounters) (with .horizon-is j) (with .budget-is j))
 
   no-hand-back′ : isHandBack begin-call ≡ false
   unfolding isHandBack
   no-hand-back′ = refl
 
   abbrev begun-now : Out
-  begun-now = rule (view (o .head) E Q (zeroes 128) (zeroes 512)) (countersOf zeroCounters) begin-call
+  begun-now = rule (view (o .head) E Q Z (zeroes 512)) (countersOf zeroCounters) begin-call
 
   begun-entries : run plan (o .calls + 1) .entries ≡ entry (run plan (o .calls) .now) begin-call begun-now ∷ run plan (o .calls) .entries
-  begun-entries = entries-are plan (o .calls) (o .head) E Q (i .before) begin-call (i .goes z) no-hand-back′ r Q refl begin-gives
+  begun-entries = entries-are plan (o .calls) (o .head) E Q Z (i .before) begin-call (i .goes z) no-hand-back′ r Q refl begin-gives
 
   follows-begin : AfterBegin plan (run plan (o .calls) .entries) (plan .horizon) (plan .budget) (entry (run plan (o .calls) .now) begin-call begun-now .raises) begun-now
   unfolding rule
-  follows-begin = after-begin plan (run plan (o .calls) .entries) (plan .horizon) (plan .budget) _ (view (o .head) E Q (zeroes 128) (zeroes 512)) (countersOf zeroCounters)
+  follows-begin = after-begin plan (run plan (o .calls) .entries) (plan .horizon) (plan .budget) _ (view (o .head) E Q Z (zeroes 512)) (countersOf zeroCounters)
 
   begun-number : n ≡ number (begun-now .answer)
-  begun-number = number-is plan (o .calls) (o .head) E Q (i .before) begin-call (i .goes z) no-hand-back′ r Q refl begin-gives n e
+  begun-number = number-is plan (o .calls) (o .head) E Q Z (i .before) begin-call (i .goes z) no-hand-back′ r Q refl begin-gives n e
 
-  pub opened-run : Opens s (record { head = r .head; number = n; calls = o .calls + 1 }) E Q
+  pub opened-run : Opens s (record { head = r .head; number = n; calls = o .calls + 1 }) E Q Z
   opened-run = record {
-    before = before-next plan (o .calls) (o .head) E Q (i .before) begin-call (i .goes z) no-hand-back′ r Q refl begin-gives;
-    number = last-number plan (o .calls) (o .head) E Q (i .before) begin-call (i .goes z) no-hand-back′ r Q refl begin-gives n e;
+    before = before-next plan (o .calls) (o .head) E Q Z (i .before) begin-call (i .goes z) no-hand-back′ r Q refl begin-gives;
+    number = last-number plan (o .calls) (o .head) E Q Z (i .before) begin-call (i .goes z) no-hand-back′ r Q refl begin-gives n e;
     goes = λ x. let f = follows-begin .goes (sym begun-number ∙ x) in (ap (next plan) begun-entries ∙ f .0, ap (λ (y : Out). y .after .running) begin-gives ∙ f .1);
     stops = λ x. ap (next plan) begun-entries ∙ follows-begin .stops (rw begun-number at x);
   }
 
 -- A refused initial event: there is no begin.
-pub not-opened : (s : List ℕ) (o : Opened) (E Q : List ℕ) → Adds s o E Q → 0 < o .number → Opens s o E Q
-not-opened s o E Q i l = record { before = i .before; number = i .number; goes = λ z. absurd (omega arith); stops = i .stops }
+pub not-opened : (s : List ℕ) (o : Opened) (E Q Z : List ℕ) → Adds s o E Q Z → 0 < o .number → Opens s o E Q Z
+not-opened s o E Q Z i l = record { before = i .before; number = i .number; goes = λ z. absurd (omega arith); stops = i .stops }

@@ -41,8 +41,8 @@ use Rattle.plan_run.specs.Ends.{Ended, EndsWith}
 use Rattle.plan_run.specs.RunsBuilt.{Built, InitialAt, Repliable, RunsBuilt}
 
 -- Before the first call.
-module _ (p : Plan) (h : Header) (E : List ℕ) (i : Built p h E) where
-  pub first-reached : Reached p 0 h zeroCounters E (zeroes 4096) (zeroes 128) (zeroes 512)
+module _ (p : Plan) (h : Header) (E Z : List ℕ) (i : Built p h E Z) where
+  pub first-reached : Reached p 0 h zeroCounters E (zeroes 4096) Z (zeroes 512)
   unfolding run
   first-reached = record {
     accepted = i .accepted;
@@ -51,16 +51,16 @@ module _ (p : Plan) (h : Header) (E : List ℕ) (i : Built p h E) where
     lent = record {
       edge-words = i .edge-words;
       pending-words = refl;
-      horizon-words = refl;
+      process-words = i .process-words;
       batch-words = refl;
       passes = ap foreign (sym (i .state)) ∙ passes-11 _ (makes (setupOf p) R.zeros (i .accepted) .shaped);
     };
   }
 
-pub adding-start : (s : List ℕ) (at n : ℕ) (h : Header) (E : List ℕ) → Built (planOf s) h E → InitialAt s at n → Adding s 0 at h E (zeroes 4096)
+pub adding-start : (s : List ℕ) (at n : ℕ) (h : Header) (E Z : List ℕ) → Built (planOf s) h E Z → InitialAt s at n → Adding s 0 at h E (zeroes 4096) Z
 unfolding run left handledLines initials count lastNumber
-adding-start s at n h E i j = record {
-  before = record { reached = first-reached (planOf s) h E i; nothing-left-out = refl; no-lines = refl };
+adding-start s at n h E Z i j = record {
+  before = record { reached = first-reached (planOf s) h E Z i; nothing-left-out = refl; no-lines = refl };
   next-is = next-first (planOf s);
   added = refl;
   number = refl;
@@ -71,14 +71,14 @@ adding-start s at n h E i j = record {
 }
 
 -- The turns start where the run was opened, with no line written.
-module _ (s : List ℕ) (o : Opened) (E Q : List ℕ) (i : Opens s o E Q) (t y l : List ℕ) (short : length s ≤ 16384) (j : Repliable s t) (room : length y ≡ 7208) where
+module _ (s : List ℕ) (o : Opened) (E Q Z : List ℕ) (i : Opens s o E Q Z) (t y l : List ℕ) (short : length s ≤ 16384) (j : Repliable s t) (room : length y ≡ 7208) where
   abbrev first : Turn
   first = record { head = o .head; counters = zeroCounters; number = o .number; at = 0; calls = o .calls }
 
   nothing-listed : Listed l 0 (handledLines (run (planOf s) (o .calls) .entries))
   nothing-listed = subst (Listed l 0) (sym (i .before .no-lines)) (listed-none l)
 
-  came-first : Came s first E Q (zeroes 128) (zeroes 512) t y l
+  came-first : Came s first E Q Z (zeroes 512) t y l
   came-first = record {
     reached = i .before .reached;
     listed = nothing-listed;
@@ -100,8 +100,8 @@ module _ (s : List ℕ) (o : Opened) (E Q : List ℕ) (i : Opens s o E Q) (t y l
         (λ z. let f = eqb-false (o .number) 0 z in let p : 0 < o .number = omega arith in i .stops p);
   }
 
-  pub came-start : (c : Counters) → c ≡ zeroCounters → Came s (record { head = o .head; counters = c; number = o .number; at = 0; calls = o .calls }) E Q (zeroes 128) (zeroes 512) t y l
-  came-start c e = subst (λ (x : Counters). Came s (record { head = o .head; counters = x; number = o .number; at = 0; calls = o .calls }) E Q (zeroes 128) (zeroes 512) t y l) (sym e) came-first
+  pub came-start : (c : Counters) → c ≡ zeroCounters → Came s (record { head = o .head; counters = c; number = o .number; at = 0; calls = o .calls }) E Q Z (zeroes 512) t y l
+  came-start c e = subst (λ (x : Counters). Came s (record { head = o .head; counters = x; number = o .number; at = 0; calls = o .calls }) E Q Z (zeroes 512) t y l) (sym e) came-first
 
 -- What stands in the slice at the end is the listing of the whole run.
 module _ (s : List ℕ) (r : Turn) (E Q Z B l l′ : List ℕ) (b : Bool) (i : Ended s r E Q Z B l) (e : EndsWith r l l′ b) where

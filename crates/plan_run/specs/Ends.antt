@@ -14,8 +14,8 @@ use Rattle.plan_round.specs.declared.Turn.{Turn}
 use Rattle.plan_round.specs.Reached.{planOf, Reached, ListedSoFar}
 
 -- The run is over: what r says is where it came to.
-pub record Ended (s : List ℕ) (r : Turn) (edges pending horizons batch listing : List ℕ) : Type 0 where
-  pub reached : Reached (planOf s) (r .calls) (r .head) (r .counters) edges pending horizons batch
+pub record Ended (s : List ℕ) (r : Turn) (edges pending processes batch listing : List ℕ) : Type 0 where
+  pub reached : Reached (planOf s) (r .calls) (r .head) (r .counters) edges pending processes batch
   pub listed : ListedSoFar (planOf s) (r .calls) listing (r .at)
   pub number : r .number ≡ lastNumber (run (planOf s) (r .calls) .entries)
   pub over : next (planOf s) (run (planOf s) (r .calls) .entries) ≡ none

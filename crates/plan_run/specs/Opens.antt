@@ -22,15 +22,15 @@ use Rattle.plan_rules.specs.Listing.{handledLines, lastNumber}
 use Rattle.plan_round.specs.Reached.{planOf, Reached}
 use Rattle.plan_run.specs.declared.Opened.{Opened}
 
--- Before the run: nothing is counted, no horizon has moved, nothing is in hand or handled.
-pub record Before (p : Plan) (k : ℕ) (h : Header) (edges pending : List ℕ) : Type 0 where
-  pub reached : Reached p k h zeroCounters edges pending (zeroes 128) (zeroes 512)
+-- Before the run: nothing is counted, in hand or handled.
+pub record Before (p : Plan) (k : ℕ) (h : Header) (edges pending processes : List ℕ) : Type 0 where
+  pub reached : Reached p k h zeroCounters edges pending processes (zeroes 512)
   pub nothing-left-out : left p (run p k .entries) ≡ p .replies
   pub no-lines : handledLines (run p k .entries) ≡ []
 
 -- k initial events are accepted, and the next stands at the bit `at`.
-pub record Adding (s : List ℕ) (k at : ℕ) (h : Header) (edges pending : List ℕ) : Type 0 where
-  pub before : Before (planOf s) k h edges pending
+pub record Adding (s : List ℕ) (k at : ℕ) (h : Header) (edges pending processes : List ℕ) : Type 0 where
+  pub before : Before (planOf s) k h edges pending processes
   pub next-is : next (planOf s) (run (planOf s) k .entries) ≡ some (opening (planOf s) (run (planOf s) k .entries))
   pub added : initials (run (planOf s) k .entries) ≡ k
   pub number : 0 ≡ lastNumber (run (planOf s) k .entries)
@@ -40,16 +40,16 @@ pub record Adding (s : List ℕ) (k at : ℕ) (h : Header) (edges pending : List
   pub countable : length (planOf s .initial) < 1024
 
 -- All of them are, and begin is next; or one was refused, and that is the end.
-pub record Adds (s : List ℕ) (r : Opened) (edges pending : List ℕ) : Type 0 where
-  pub before : Before (planOf s) (r .calls) (r .head) edges pending
+pub record Adds (s : List ℕ) (r : Opened) (edges pending processes : List ℕ) : Type 0 where
+  pub before : Before (planOf s) (r .calls) (r .head) edges pending processes
   pub number : r .number ≡ lastNumber (run (planOf s) (r .calls) .entries)
   pub goes : r .number ≡ 0 → next (planOf s) (run (planOf s) (r .calls) .entries) ≡ some (Begin (planOf s .horizon) (planOf s .budget))
   pub stops : 0 < r .number → next (planOf s) (run (planOf s) (r .calls) .entries) ≡ none
   pub few : r .calls < 1024
 
 -- The run is open and a step is next; or there is none.
-pub record Opens (s : List ℕ) (r : Opened) (edges pending : List ℕ) : Type 0 where
-  pub before : Before (planOf s) (r .calls) (r .head) edges pending
+pub record Opens (s : List ℕ) (r : Opened) (edges pending processes : List ℕ) : Type 0 where
+  pub before : Before (planOf s) (r .calls) (r .head) edges pending processes
   pub number : r .number ≡ lastNumber (run (planOf s) (r .calls) .entries)
   pub goes : r .number ≡ 0 → (next (planOf s) (run (planOf s) (r .calls) .entries) ≡ some Step) × (r .head .running ≡ true)
   pub stops : 0 < r .number → next (planOf s) (run (planOf s) (r .calls) .entries) ≡ none

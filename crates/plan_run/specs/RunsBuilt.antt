@@ -24,11 +24,12 @@ use Rattle.plan_replies.specs.Table.{Table}
 use Rattle.plan_round.specs.Reached.{planOf}
 use Rattle.plan_run.specs.Opens.{Begun}
 
--- The header and the edges are what build made of the plan.
-pub record Built (p : Plan) (h : Header) (edges : List ℕ) : Type 0 where
+-- The header, the edges and the processes are what build made of the plan.
+pub record Built (p : Plan) (h : Header) (edges processes : List ℕ) : Type 0 where
   pub accepted : build (setupOf p) R.zeros .answer ≡ Accepted
-  pub state : built (setupOf p) ≡ view h edges (zeroes 4096) (zeroes 128) (zeroes 512)
+  pub state : built (setupOf p) ≡ view h edges (zeroes 4096) processes (zeroes 512)
   pub edge-words : length edges ≡ 2048
+  pub process-words : length processes ≡ 256
 
 -- So many initial events stand at the bit `at`.
 pub record InitialAt (s : List ℕ) (at count : ℕ) : Type 0 where

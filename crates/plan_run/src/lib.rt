@@ -25,12 +25,13 @@ fn add_initials<'a>(
     mut head: Header,
     edges: &'a [u64],
     pending: &mut [u64],
+    processes: &'a [u64],
     file: &'a [u8],
     at: usize,
     count: usize,
 ) -> Opened
-    requires { ⌜ Adding (now file) 0 at head (now edges) (now pending) × (count ≡ length (planOf (now file) .initial)) ⌝ }
-    ensures { λ r. ⌜ Adds (now (file .entry)) r (now (edges .entry)) (now (pending .exit)) ⌝ }
+    requires { ⌜ Adding (now file) 0 at head (now edges) (now pending) (now processes) × (count ≡ length (planOf (now file) .initial)) ⌝ }
+    ensures { λ r. ⌜ Adds (now (file .entry)) r (now (edges .entry)) (now (pending .exit)) (now (processes .entry)) ⌝ }
 {
     let mut p = at;
     let mut calls: usize = 0;
@@ -66,9 +67,10 @@ fn begin<'a>(
     file: &'a [u8],
     edges: &'a [u64],
     pending: &'a [u64],
+    processes: &'a [u64],
 ) -> Opened
-    requires { ⌜ Adds (now file) added (now edges) (now pending) × Begun (now file) horizon budget ⌝ }
-    ensures { λ r. ⌜ Opens (now (file .entry)) r (now (edges .entry)) (now (pending .entry)) ⌝ }
+    requires { ⌜ Adds (now file) added (now edges) (now pending) (now processes) × Begun (now file) horizon budget ⌝ }
+    ensures { λ r. ⌜ Opens (now (file .entry)) r (now (edges .entry)) (now (pending .entry)) (now (processes .entry)) ⌝ }
 {
     if 0 < added.number {
         return added;
@@ -101,15 +103,15 @@ fn run_turns<'a>(
     start: Turn,
     edges: &mut [u64],
     pending: &mut [u64],
-    horizons: &mut [u64],
+    processes: &mut [u64],
     batch: &mut [u64],
     file: &'a [u8],
     table: &mut [u64],
     reply: &mut [u64],
     listing: &mut [u8],
 ) -> Turn
-    requires { ⌜ Came (now file) start (now edges) (now pending) (now horizons) (now batch) (now table) (now reply) (now listing) ⌝ }
-    ensures { λ r. ⌜ Ended (now (file .entry)) r (now (edges .exit)) (now (pending .exit)) (now (horizons .exit)) (now (batch .exit)) (now (listing .exit)) ⌝ }
+    requires { ⌜ Came (now file) start (now edges) (now pending) (now processes) (now batch) (now table) (now reply) (now listing) ⌝ }
+    ensures { λ r. ⌜ Ended (now (file .entry)) r (now (edges .exit)) (now (pending .exit)) (now (processes .exit)) (now (batch .exit)) (now (listing .exit)) ⌝ }
 {
     let mut t = start;
     while goes_on(t) {
@@ -120,7 +122,7 @@ fn run_turns<'a>(
             counters,
             edges,
             pending,
-            horizons,
+            processes,
             batch,
             file,
             table,
@@ -151,11 +153,12 @@ pub fn end_listing(t: Turn, listing: &mut [u8]) -> bool
     plan_text::finish(listing, end)
 }
 
-// The run of a plan that build accepted: `built` and the edges are what it made. The slice gets the
-// listing and zeros behind it; false, and zeros, where it does not fit.
+// The run of a plan that build accepted: `built`, the edges and the processes are what it made. The
+// slice gets the listing and zeros behind it; false, and zeros, where it does not fit.
 pub fn run_built<'a>(
     built: Header,
     edges: &mut [u64],
+    processes: &mut [u64],
     horizon: SimTime,
     budget: u64,
     file: &'a [u8],
@@ -164,15 +167,22 @@ pub fn run_built<'a>(
     table: &mut [u64],
     listing: &mut [u8],
 ) -> bool
-    requires { ⌜ Built (planOf (now file)) built (now edges) × Begun (now file) horizon budget × InitialAt (now file) «initial_at» initial × Repliable (now file) (now table) ⌝ }
+    requires { ⌜ Built (planOf (now file)) built (now edges) (now processes) × Begun (now file) horizon budget × InitialAt (now file) «initial_at» initial × Repliable (now file) (now table) ⌝ }
     ensures { λ r. ⌜ RunsBuilt (now (file .entry)) (now (listing .entry)) (now (listing .exit)) r ⌝ }
 {
     let mut pending = [0u64; 4096];
-    let mut horizons = [0u64; 128];
     let mut batch = [0u64; 512];
     let mut reply = [0u64; 7208];
-    let added = add_initials(built, edges, &mut pending, file, initial_at, initial);
-    let begun = begin(added, horizon, budget, file, edges, &pending);
+    let added = add_initials(
+        built,
+        edges,
+        &mut pending,
+        processes,
+        file,
+        initial_at,
+        initial,
+    );
+    let begun = begin(added, horizon, budget, file, edges, &pending, processes);
     let head = begun.head;
     let start = Turn {
         head: head,
@@ -185,7 +195,7 @@ pub fn run_built<'a>(
         start,
         edges,
         &mut pending,
-        &mut horizons,
+        processes,
         &mut batch,
         file,
         table,

@@ -56,7 +56,7 @@ module _ (s : Runtime) where
 
   module _ (passes : foreign (viewOf s) ≡ false) where
     pub can-pass : length (s .pending) ≡ 4096 → 8 * s .head .pending ≤ length (s .pending)
-    can-pass l = omega (arith, few-pending (s .head) (s .edges) (s .pending) (s .horizons) (s .batch) passes)
+    can-pass l = omega (arith, few-pending (s .head) (s .edges) (s .pending) (s .processes) (s .batch) passes)
 
     module _ (c : Counters) where
       passed : (a b : A.Reading) → a ≡ b → out (A.Read a) (viewOf s) (countersOf c) ≡ read (viewOf s) (countersOf c) b

@@ -20,7 +20,13 @@ pub fn read_gvt(state: Runtime, counters: Counters) -> ReadAnswer
     ensures { λ r. ⌜ Reads readGvt state counters r ⌝ }
 {
     let head = state.head;
-    if is_foreign(head, &state.edges, &state.pending, &state.batch) {
+    if is_foreign(
+        head,
+        &state.edges,
+        &state.pending,
+        &state.processes,
+        &state.batch,
+    ) {
         return ReadAnswer::ForeignState;
     }
     let gvt = head.gvt;
@@ -31,7 +37,13 @@ pub fn read_counters(state: Runtime, counters: Counters) -> ReadAnswer
     ensures { λ r. ⌜ Reads readCounters state counters r ⌝ }
 {
     let head = state.head;
-    if is_foreign(head, &state.edges, &state.pending, &state.batch) {
+    if is_foreign(
+        head,
+        &state.edges,
+        &state.pending,
+        &state.processes,
+        &state.batch,
+    ) {
         return ReadAnswer::ForeignState;
     }
     ReadAnswer::Counted(counters, head.used)
@@ -41,7 +53,13 @@ pub fn read_pending(state: Runtime, counters: Counters) -> ReadAnswer
     ensures { λ r. ⌜ Reads readPending state counters r ⌝ }
 {
     let head = state.head;
-    if is_foreign(head, &state.edges, &state.pending, &state.batch) {
+    if is_foreign(
+        head,
+        &state.edges,
+        &state.pending,
+        &state.processes,
+        &state.batch,
+    ) {
         return ReadAnswer::ForeignState;
     }
     ReadAnswer::Pending(head.pending as u64)
@@ -52,7 +70,13 @@ pub fn read_earliest(state: Runtime, counters: Counters) -> ReadAnswer
     ensures { λ r. ⌜ Reads readEarliest state counters r ⌝ }
 {
     let head = state.head;
-    if is_foreign(head, &state.edges, &state.pending, &state.batch) {
+    if is_foreign(
+        head,
+        &state.edges,
+        &state.pending,
+        &state.processes,
+        &state.batch,
+    ) {
         return ReadAnswer::ForeignState;
     }
     let largest = SimTime::largest();

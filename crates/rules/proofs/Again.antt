@@ -6,7 +6,7 @@ use native.Mathlib.Omega.{arith}
 use Rattle.rules.specs.Base.{Maybe, none, some}
 use Rattle.rules.specs.State.{Event, State, withBounds}
 use Rattle.rules.specs.Pending.{firstOf, tickOr, firstTick}
-use Rattle.rules.specs.Frontiers.{safe}
+use Rattle.rules.specs.Frontiers.{inboundOf, safe}
 use Rattle.rules.specs.Refresh.{raised, refreshTo, gvtOf, refreshed}
 use Rattle.rules.specs.Step.{inputFrontier, newEdges, newHorizons, advanced}
 use Rattle.rules.proofs.Fronts.{safe-le}
@@ -17,18 +17,18 @@ unfolding tickOr
 lesser-same a H none h = omega arith
 lesser-same a H (some e) h = refl
 
-pub refresh-is-frontier : (s : State) (H p : ℕ) → refreshTo (s .edges) H (s .pending) p ≡ inputFrontier s H p
+pub refresh-is-frontier : (s : State) (H p : ℕ) → refreshTo (s .inbound) H (s .pending) p ≡ inputFrontier s H p
 unfolding refreshTo inputFrontier firstTick
-refresh-is-frontier s H p = lesser-same (safe (s .edges) H p) H (firstOf (s .pending) p) (omega (arith, safe-le (s .edges) H p))
+refresh-is-frontier s H p = lesser-same (safe (s .inbound) H p) H (firstOf (s .pending) p) (omega (arith, safe-le (s .inbound) H p))
 
 raised-again : (f g : ℕ → ℕ) → ((p : ℕ) → f p ≡ g p) → (i : ℕ) (hs : List ℕ) → raised f i (raised g i hs) ≡ raised g i hs
 unfolding raised
 raised-again f g e i [] = refl
 raised-again f g e i (h ∷ hs) = let z : max (max h (g i)) (f i) ≡ max h (g i) = omega (arith, e i) in rw (z, raised-again f g e (suc i) hs)
 
-pub advanced-once : (s : State) (h : ℕ) → advanced s h ≡ withBounds s (newEdges s (suc h)) (newHorizons s (suc h)) (gvtOf (s .gvt) h (s .pending) (newHorizons s (suc h)))
+pub advanced-once : (s : State) (h : ℕ) → advanced s h ≡ withBounds s (newEdges s (suc h)) (inboundOf (s .n) (newEdges s (suc h))) (newHorizons s (suc h)) (gvtOf (s .gvt) h (s .pending) (newHorizons s (suc h)))
 unfolding refreshed
-advanced-once s h = rw (raised-again (refreshTo (s .edges) (suc h) (s .pending)) (inputFrontier s (suc h)) (refresh-is-frontier s (suc h)) 0 (s .horizons))
+advanced-once s h = rw (raised-again (refreshTo (s .inbound) (suc h) (s .pending)) (inputFrontier s (suc h)) (refresh-is-frontier s (suc h)) 0 (s .horizons))
 
 -- A refresh raises the local horizons to what an advance would.
 raised-same : (f g : ℕ → ℕ) → ((p : ℕ) → f p ≡ g p) → (i : ℕ) (hs : List ℕ) → raised f i hs ≡ raised g i hs
@@ -36,6 +36,6 @@ unfolding raised
 raised-same f g e i [] = refl
 raised-same f g e i (h ∷ hs) = rw (e i, raised-same f g e (suc i) hs)
 
-pub refreshed-once : (s : State) (h : ℕ) → refreshed s h (s .edges) (s .edges) (s .horizons) ≡ withBounds s (s .edges) (newHorizons s (suc h)) (gvtOf (s .gvt) h (s .pending) (newHorizons s (suc h)))
+pub refreshed-once : (s : State) (h : ℕ) → refreshed s h (s .edges) (s .inbound) (s .horizons) ≡ withBounds s (s .edges) (s .inbound) (newHorizons s (suc h)) (gvtOf (s .gvt) h (s .pending) (newHorizons s (suc h)))
 unfolding refreshed
-refreshed-once s h = rw (raised-same (refreshTo (s .edges) (suc h) (s .pending)) (inputFrontier s (suc h)) (refresh-is-frontier s (suc h)) 0 (s .horizons))
+refreshed-once s h = rw (raised-same (refreshTo (s .inbound) (suc h) (s .pending)) (inputFrontier s (suc h)) (refresh-is-frontier s (suc h)) 0 (s .horizons))

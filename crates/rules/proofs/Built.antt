@@ -18,6 +18,7 @@ use Rattle.rules.proofs.Tests.{or-left, or-right, or-both, and-off, not
 use Rattle.rules.proofs.Lists.{All, all-map, all-append, all-front, all-rest, all-mapped, all-of, any-none, none-any}
 use Rattle.rules.proofs.Table.{Passed, by-firsts, firsts-all}
 use Rattle.rules.proofs.Shape.{Joined, Shaped}
+use Rattle.rules.proofs.Recorded.{recorded-anew}
 use Rattle.rules.proofs.Order.{Pairs, rising-pairs}
 use Rattle.rules.proofs.Take.{upFrom-length}
 
@@ -182,6 +183,7 @@ makes a c e =
         queued = record { few = omega arith; short = tt; known = tt; order = refl; numbers = tt };
         held = record { few = omega arith; short = tt; known = tt; order = refl };
         runs = record { below = refl; stored = refl; opened = refl };
+        recorded = recorded-anew (a .n) (edgesOf (a .lookahead) (a .sources) (a .counts) (a .destinations));
       };
       bounds = r .bounds;
       edges = l;

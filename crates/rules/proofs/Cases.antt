@@ -169,7 +169,7 @@ pub record BackCases (s : State) (c : Counters) (mask : ℕ) (xs : List Emission
   pub lost : Replies s mask xs → (r : Refusal) → Losing r → P (poisonWith s c r)
   pub no-horizon : Replies s mask xs → s .stored ≡ unset → P (refuse s c Answers.NoBatch)
   pub spends : (h b : ℕ) → Commits s mask xs h b → P (out (Refused (Answers.EventBudgetExceeded b)) (closed (handled s xs)) (countRound c (s .batch) xs))
-  pub commits : (h b : ℕ) → Commits s mask xs h b → let u = refreshed (handled s xs) h (s .edges) (s .edges) (s .horizons) in P (out (Committed (u .gvt)) u (countRound c (s .batch) xs))
+  pub commits : (h b : ℕ) → Commits s mask xs h b → let u = refreshed (handled s xs) h (s .edges) (s .inbound) (s .horizons) in P (out (Committed (u .gvt)) u (countRound c (s .batch) xs))
 
 -- Q of everything that a row that poisons can refuse with.
 pub record Poisons (Q : Refusal → Type 0) : Type 0 where

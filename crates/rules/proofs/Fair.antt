@@ -7,12 +7,13 @@ use native.Mathlib.Nat.{add-zero, add-suc, suc-add, zero-add}
 use lib.ListN.{length, getD}
 use borrow.Author.Tests.{eqb-false}
 use Rattle.rules.specs.State.{Event, Message, Edge, State, maxTick}
-use Rattle.rules.specs.Frontiers.{safe}
+use Rattle.rules.specs.Frontiers.{recorded, safe}
 use Rattle.rules.specs.Refresh.{raised}
 use Rattle.rules.specs.Step.{inputFrontier, raisedEdges}
 use Rattle.rules.proofs.Tests.{by-test}
 use Rattle.rules.proofs.Lists.{All, all-map, all-both}
 use Rattle.rules.proofs.Shape.{Joined}
+use Rattle.rules.proofs.Recorded.{RecordBelow}
 use Rattle.rules.proofs.Fronts.{bound-high}
 
 -- Local horizons that rise: not below what they were or what they rise to, and not above both.
@@ -66,23 +67,14 @@ reach-raised s H (e ∷ es) t l w i = (
 abbrev pub Capped : List ℕ → Edge → Type 0
 Capped hs e = getD hs (e .destination) 0 ≤ e .bound
 
-safe-tail : (e : Edge) (es : List Edge) (H p : ℕ) → safe (e ∷ es) H p ≤ safe es H p
+pub safe-bounds : (m : List ℕ) (es : List Edge) (H : ℕ) → RecordBelow m es → All (λ (e : Edge). safe m H (e .destination) ≤ e .bound) es
 unfolding safe
-safe-tail e es H p = by-test (λ (x : ℕ). x ≤ safe es H p) (λ t. omega arith) (λ t. omega arith)
-
-safe-head : (e : Edge) (es : List Edge) (H : ℕ) → safe (e ∷ es) H (e .destination) ≤ e .bound
-unfolding safe
-safe-head e es H = by-test (λ (x : ℕ). x ≤ e .bound) (λ t. omega arith) (λ t. absurd (eqb-false (e .destination) (e .destination) t refl))
-
-pub safe-bounds : (es : List Edge) (H : ℕ) → All (λ (e : Edge). safe es H (e .destination) ≤ e .bound) es
-safe-bounds [] H = tt
-safe-bounds (e ∷ es) H =
-    (safe-head e es H, all-map (λ (f : Edge). safe es H (f .destination) ≤ f .bound) (λ (f : Edge). safe (e ∷ es) H (f .destination) ≤ f .bound) (λ f k. omega (arith, k, safe-tail e es H (f .destination))) es (safe-bounds es H))
+safe-bounds m es H r = all-map (λ (e : Edge). recorded m (e .destination) ≤ e .bound) (λ (e : Edge). safe m H (e .destination) ≤ e .bound) (λ e k. omega (arith, k)) es r
 
 -- Horizons that rise to at most their frontier stay below the bounds.
-pub capped-raised : (to : ℕ → ℕ) (H : ℕ) (hs : List ℕ) (es : List Edge) → ((p : ℕ) → to p ≤ safe es H p) → All (Capped hs) es → All (Capped (raised to 0 hs)) es
-capped-raised to H hs es f i =
-    all-map (λ e. (safe es H (e .destination) ≤ e .bound) × Capped hs e) (Capped (raised to 0 hs)) (λ e k. omega (arith, k .0, k .1, f (e .destination), raised-le to hs (e .destination))) es (all-both (λ (e : Edge). safe es H (e .destination) ≤ e .bound) (Capped hs) es (safe-bounds es H) i)
+pub capped-raised : (to : ℕ → ℕ) (H : ℕ) (hs m : List ℕ) (es : List Edge) → RecordBelow m es → ((p : ℕ) → to p ≤ safe m H p) → All (Capped hs) es → All (Capped (raised to 0 hs)) es
+capped-raised to H hs m es r f i =
+    all-map (λ e. (safe m H (e .destination) ≤ e .bound) × Capped hs e) (Capped (raised to 0 hs)) (λ e k. omega (arith, k .0, k .1, f (e .destination), raised-le to hs (e .destination))) es (all-both (λ (e : Edge). safe m H (e .destination) ≤ e .bound) (Capped hs) es (safe-bounds m es H r) i)
 
 pub capped-bounds : (s : State) (H : ℕ) (hs : List ℕ) (es : List Edge) → All (Capped hs) es → All (Capped hs) (raisedEdges s H es)
 unfolding raisedEdges
@@ -93,10 +85,10 @@ capped-bounds s H hs (e ∷ es) i = (omega (arith, i .0), capped-bounds s H hs e
 abbrev pub Under : List Edge → Event → Type 0
 Under es d = All (λ (e : Edge). e .destination ≡ d .destination → d .tick < e .bound) es
 
-pub safe-under : (es : List Edge) (H : ℕ) (d : Event) → d .tick < safe es H (d .destination) → Under es d
-safe-under es H d h =
-    all-map (λ (e : Edge). safe es H (e .destination) ≤ e .bound) (λ (e : Edge). e .destination ≡ d .destination → d .tick < e .bound)
-    (λ e k x. let z : safe es H (e .destination) ≡ safe es H (d .destination) = ap (safe es H) x in omega (arith, k)) es (safe-bounds es H)
+pub safe-under : (m : List ℕ) (es : List Edge) (H : ℕ) (d : Event) → RecordBelow m es → d .tick < safe m H (d .destination) → Under es d
+safe-under m es H d r h =
+    all-map (λ (e : Edge). safe m H (e .destination) ≤ e .bound) (λ (e : Edge). e .destination ≡ d .destination → d .tick < e .bound)
+    (λ e k x. let z : safe m H (e .destination) ≡ safe m H (d .destination) = ap (safe m H) x in omega (arith, k)) es (safe-bounds m es H r)
 
 pub under-raised : (s : State) (H : ℕ) (es : List Edge) (d : Event) → Under es d → Under (raisedEdges s H es) d
 unfolding raisedEdges

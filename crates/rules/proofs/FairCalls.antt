@@ -18,10 +18,11 @@ use Rattle.rules.specs.History.{History, appendCall, events}
 use Rattle.rules.proofs.Tests.{not-both}
 use Rattle.rules.proofs.Lists.{all-front}
 use Rattle.rules.proofs.Cases.{by-initial, by-begin, Steps, StepCases, by-step, Commits, BackCases, by-back}
-use Rattle.rules.proofs.Shape.{Shaped, passes-11, no-horizon-never}
+use Rattle.rules.proofs.Shape.{Shaped, passes-11, no-horizon-never, below-top}
+use Rattle.rules.proofs.Recorded.{RecordBelow, record-below}
 use Rattle.rules.proofs.ShapeCalls.{batch-runs, shape-handled}
 use Rattle.rules.proofs.Handed.{given}
-use Rattle.rules.proofs.FairMoves.{Fair, fair-insert, fair-batch, fair-raised, fair-bounds, fair-empty, fair-closed, below-top, fair-queued, timely}
+use Rattle.rules.proofs.FairMoves.{Fair, fair-insert, fair-batch, fair-raised, fair-bounds, fair-empty, fair-closed, fair-queued, timely}
 
 abbrev pub FairAt : List Event → State → Type 0
 FairAt g s = Fair g (s .pending) (s .batch) (s .edges) (s .horizons) (s .lookahead) (s .initial) (s .running)
@@ -36,6 +37,10 @@ Handing y k o = FairIn (appendCall y k o)
 nothing-handed : (y : History) (k : Call) (a : Answer) (t : State) (c : Counters) → events a ≡ [] → FairAt (given (y .entries)) t → Handing y k (out a t c)
 unfolding Handing FairIn given
 nothing-handed y k a t c e i = rw e i
+
+-- The record of a state that 11 lets pass is at most each bound.
+below-bounds : (s : State) → Shaped s → RecordBelow (s .inbound) (s .edges)
+below-bounds s w = record-below (s .n) (s .inbound) (s .edges) (w .recorded) (w .wired .joined)
 
 module _ (y : History) (w : Shaped (y .now)) (i : FairAt (given (y .entries)) (y .now)) where
   -- The state as given, after a refusal.
@@ -53,7 +58,7 @@ module _ (y : History) (w : Shaped (y .now)) (i : FairAt (given (y .entries)) (y
 
   step-batch : (h b : ℕ) → Steps (y .now) h b → Handing y Step (out (Batch (takenAt (y .now) h b .events) (y .now .gvt)) (withBatch (y .now) (takenAt (y .now) h b .events) (takenAt (y .now) h b .left)) (y .counters))
   unfolding Handing FairIn given events upTo
-  step-batch h b k = fair-batch (given (y .entries)) (y .now .pending) (y .now .batch) (y .now .edges) (y .now .horizons) (y .now .lookahead) (suc h) (y .now .n) (b - y .now .used) (y .now .initial) (y .now .running) (w .queued .order) (k .open-run) i
+  step-batch h b k = fair-batch (given (y .entries)) (y .now .pending) (y .now .batch) (y .now .edges) (y .now .horizons) (y .now .inbound) (y .now .lookahead) (suc h) (y .now .n) (b - y .now .used) (y .now .initial) (y .now .running) (below-bounds (y .now) w) (w .queued .order) (k .open-run) i
 
   -- The fronts after an advance, with nothing in hand.
   moved : (h b : ℕ) → Steps (y .now) h b → FairAt (given (y .entries)) (poison (advanced (y .now) h))
@@ -63,9 +68,9 @@ module _ (y : History) (w : Shaped (y .now)) (i : FairAt (given (y .entries)) (y
       let g = given (y .entries) in
       let o : s .initial ≡ false = i .opened (k .open-run) in
       let hs : List ℕ = newHorizons s (suc h) in
-      let one = fair-raised g (s .pending) (s .edges) (s .horizons) (s .lookahead) (suc h) (s .initial) (s .running) (inputFrontier s (suc h)) (λ _. suc h) (w .queued .order) o (λ p. omega arith) (λ p. omega arith) (fair-empty g (s .pending) (s .batch) (s .edges) (s .horizons) (s .lookahead) (s .initial) (s .running) i) in
-      let two = fair-raised g (s .pending) (s .edges) hs (s .lookahead) (suc h) (s .initial) (s .running) (refreshTo (s .edges) (suc h) (s .pending)) (safe (s .edges) (suc h)) (w .queued .order) o (λ p. omega arith) (λ p. omega arith) one in
-      fair-bounds s (suc h) g hs (refreshTo (s .edges) (suc h) (s .pending)) refl (below-top (s .stored) h b (k .stored) (w .runs .below)) w (i .reach) two
+      let one = fair-raised g (s .pending) (s .edges) (s .horizons) (s .inbound) (s .lookahead) (suc h) (s .initial) (s .running) (inputFrontier s (suc h)) (λ _. suc h) (below-bounds s w) (w .queued .order) o (λ p. omega arith) (λ p. omega arith) (fair-empty g (s .pending) (s .batch) (s .edges) (s .horizons) (s .lookahead) (s .initial) (s .running) i) in
+      let two = fair-raised g (s .pending) (s .edges) hs (s .inbound) (s .lookahead) (suc h) (s .initial) (s .running) (refreshTo (s .inbound) (suc h) (s .pending)) (safe (s .inbound) (suc h)) (below-bounds s w) (w .queued .order) o (λ p. omega arith) (λ p. omega arith) one in
+      fair-bounds s (suc h) g hs (refreshTo (s .inbound) (suc h) (s .pending)) refl (below-top (s .stored) h b (k .stored) (w .runs .below)) w (i .reach) two
 
   -- The same with the batch as it was, which is empty.
   unmoved-batch : (h b : ℕ) → Steps (y .now) h b → FairAt (given (y .entries)) (advanced (y .now) h)
@@ -89,11 +94,11 @@ module _ (y : History) (w : Shaped (y .now)) (i : FairAt (given (y .entries)) (y
       fair-queued (given (y .entries)) (y .now .pending) (y .now .batch) (y .now .edges) (y .now .horizons) (y .now .lookahead) (y .now .initial) (y .now .running) (y .now .next) (messages xs)
       (timely (y .now) (given (y .entries)) mask xs (w .sized .ahead) i (k .reply .formed) (all-front (λ (r : Row). r .test ≡ false) (processRows (y .now) mask xs (y .now .batch)) _ (k .passed))) i
 
-  refreshed-up : (mask : ℕ) (xs : List Emission) (h b : ℕ) → Commits (y .now) mask xs h b → Shaped (handled (y .now) xs) → FairAt (given (y .entries)) (refreshed (handled (y .now) xs) h (y .now .edges) (y .now .edges) (y .now .horizons))
+  refreshed-up : (mask : ℕ) (xs : List Emission) (h b : ℕ) → Commits (y .now) mask xs h b → Shaped (handled (y .now) xs) → FairAt (given (y .entries)) (refreshed (handled (y .now) xs) h (y .now .edges) (y .now .inbound) (y .now .horizons))
   unfolding refreshed refreshTo
   refreshed-up mask xs h b k v =
       let t = handled (y .now) xs in
-      fair-raised (given (y .entries)) (t .pending) (t .edges) (t .horizons) (t .lookahead) (suc h) (t .initial) (t .running) (refreshTo (t .edges) (suc h) (t .pending)) (safe (t .edges) (suc h)) (v .queued .order)
+      fair-raised (given (y .entries)) (t .pending) (t .edges) (t .horizons) (t .inbound) (t .lookahead) (suc h) (t .initial) (t .running) (refreshTo (t .inbound) (suc h) (t .pending)) (safe (t .inbound) (suc h)) (below-bounds t v) (v .queued .order)
       (i .opened (batch-runs (y .now) w (k .reply .some-batch))) (λ p. omega arith) (λ p. omega arith) (queued-up mask xs h b k)
 
   back-cases : (mask : ℕ) (xs : List Emission) → BackCases (y .now) (y .counters) mask xs (Handing y (HandBack mask xs))

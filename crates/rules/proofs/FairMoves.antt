@@ -5,12 +5,10 @@ use mathlib.Core.List.{List, [], _∷_}
 use Prim.Native.Nat.{ℕ, suc, _≤_, _<_}
 use native.Mathlib.Omega.{arith}
 use lib.ListN.{getD}
-use borrow.Author.Tests.{leb-false}
 use Rattle.rules.specs.Base.{upFrom, rising}
-use Rattle.rules.specs.State.{Event, Message, Edge, Stored, stored, State, maxTick}
+use Rattle.rules.specs.State.{Event, Message, Edge, State, maxTick}
 use Rattle.rules.specs.Pending.{before, insert, firstTick, queue}
 use Rattle.rules.specs.Frontiers.{safe}
-use Rattle.rules.specs.Foreign.{horizonIsMax}
 use Rattle.rules.specs.Refresh.{raised}
 use Rattle.rules.specs.Step.{takeEligible, inputFrontier, newEdges}
 use Rattle.rules.specs.HandBack.{Emission, malformed, processRows, messages}
@@ -18,6 +16,7 @@ use Rattle.rules.proofs.Tests.{not-both}
 use Rattle.rules.proofs.Lists.{All, all-map, all-both, all-mapped}
 use Rattle.rules.proofs.Table.{Passed}
 use Rattle.rules.proofs.Shape.{Shaped}
+use Rattle.rules.proofs.Recorded.{RecordBelow}
 use Rattle.rules.proofs.Order.{all-insert, sorted}
 use Rattle.rules.proofs.Take.{take-all, take-safe}
 use Rattle.rules.proofs.Checks.{Routed, each-emission}
@@ -58,20 +57,20 @@ fair-insert g q bs es hs L initial running e o i =
 in-hand : (hs : List ℕ) (g bs : List Event) → All (Floor hs) bs → All (Last g) bs → All (InHand hs g) bs
 in-hand hs g bs i j = all-map (λ b. Floor hs b × Last g b) (InHand hs g) (λ b k. record { floor = k .0; last = k .1 }) bs (all-both (Floor hs) (Last g) bs i j)
 
-pub fair-batch : (g q bs : List Event) (es : List Edge) (hs : List ℕ) (L H n k : ℕ) (initial running : Bool) → rising before q ≡ true → running ≡ true → Fair g q bs es hs L initial running
-    → Fair (handedOn (takeEligible es H (upFrom 0 n) k q .events) g) (takeEligible es H (upFrom 0 n) k q .left) (takeEligible es H (upFrom 0 n) k q .events) es hs L initial running
-fair-batch g q bs es hs L H n k initial running s u i =
-    let taken : List Event = takeEligible es H (upFrom 0 n) k q .events in
-    let t = take-good es H (upFrom 0 n) k q g (sorted q s) (i .above) (i .order) in
-    let f = take-all (Floor hs) es H (upFrom 0 n) k q (i .floor) in
+pub fair-batch : (g q bs : List Event) (es : List Edge) (hs m : List ℕ) (L H n k : ℕ) (initial running : Bool) → RecordBelow m es → rising before q ≡ true → running ≡ true → Fair g q bs es hs L initial running
+    → Fair (handedOn (takeEligible m H (upFrom 0 n) k q .events) g) (takeEligible m H (upFrom 0 n) k q .left) (takeEligible m H (upFrom 0 n) k q .events) es hs L initial running
+fair-batch g q bs es hs m L H n k initial running r s u i =
+    let taken : List Event = takeEligible m H (upFrom 0 n) k q .events in
+    let t = take-good m H (upFrom 0 n) k q g (sorted q s) (i .above) (i .order) in
+    let f = take-all (Floor hs) m H (upFrom 0 n) k q (i .floor) in
     record {
       order = t .order;
       above = t .above;
       floor = f .left;
-      held = in-hand hs (handedOn taken g) taken (f .events) (take-last es H 0 n k q g (sorted q s) (i .above));
+      held = in-hand hs (handedOn taken g) taken (f .events) (take-last m H 0 n k q g (sorted q s) (i .above));
       reach = i .reach;
       capped = i .capped;
-      under = all-handed (Under es) taken g (all-map (λ (b : Event). b .tick < safe es H (b .destination)) (Under es) (λ b x. safe-under es H b x) taken (take-safe es H (upFrom 0 n) k q)) (i .under);
+      under = all-handed (Under es) taken g (all-map (λ (b : Event). b .tick < safe m H (b .destination)) (Under es) (λ b x. safe-under m es H b r x) taken (take-safe m H (upFrom 0 n) k q)) (i .under);
       fresh = λ e. not-both e (i .opened u);
       opened = i .opened;
     }
@@ -84,15 +83,15 @@ all-choose P f (x ∷ xs) i = (i (f x) .0, all-choose P f xs (λ d. i d .1))
 first-tick : (q : List Event) (d : ℕ → ℕ) → rising before q ≡ true → All (λ (e : Event). firstTick q (e .destination) (d (e .destination)) ≤ e .tick) q
 first-tick q d s = all-choose (λ k (e : Event). firstTick q (e .destination) k ≤ e .tick) (λ e. d (e .destination)) q (λ k. first-least q k s)
 
-pub fair-raised : (g q : List Event) (es : List Edge) (hs : List ℕ) (L H : ℕ) (initial running : Bool) (to d : ℕ → ℕ) → rising before q ≡ true → initial ≡ false → ((p : ℕ) → to p ≤ safe es H p) → ((p : ℕ) → to p ≤ firstTick q p (d p))
+pub fair-raised : (g q : List Event) (es : List Edge) (hs m : List ℕ) (L H : ℕ) (initial running : Bool) (to d : ℕ → ℕ) → RecordBelow m es → rising before q ≡ true → initial ≡ false → ((p : ℕ) → to p ≤ safe m H p) → ((p : ℕ) → to p ≤ firstTick q p (d p))
     → Fair g q [] es hs L initial running → Fair g q [] es (raised to 0 hs) L initial running
-fair-raised g q es hs L H initial running to d s o a b i = record {
+fair-raised g q es hs m L H initial running to d r s o a b i = record {
   order = i .order;
   above = i .above;
   floor = floor-raised to hs q (all-map (λ (e : Event). firstTick q (e .destination) (d (e .destination)) ≤ e .tick) (λ (e : Event). to (e .destination) ≤ e .tick) (λ e x. omega (arith, b (e .destination))) q (first-tick q d s)) (i .floor);
   held = tt;
   reach = reach-more to hs L es (i .reach);
-  capped = capped-raised to H hs es a (i .capped);
+  capped = capped-raised to H hs m es r a (i .capped);
   under = i .under;
   fresh = λ e. not-both e o;
   opened = λ _. o;
@@ -118,10 +117,6 @@ fair-empty g q bs es hs L initial running i = record { order = i .order; above =
 
 pub fair-closed : (g q bs : List Event) (es : List Edge) (hs : List ℕ) (L : ℕ) (initial running : Bool) → Fair g q bs es hs L initial running → Fair g q bs es hs L initial false
 fair-closed g q bs es hs L initial running i = record { order = i .order; above = i .above; floor = i .floor; held = i .held; reach = i .reach; capped = i .capped; under = i .under; fresh = i .fresh; opened = λ e. absurd (true≢false (sym e)) }
-
-pub below-top : (l : Stored) (h b : ℕ) → l ≡ stored h b → horizonIsMax l ≡ false → suc h ≤ maxTick
-unfolding horizonIsMax
-below-top l h b e a = leb-false maxTick h (ap horizonIsMax (sym e) ∙ a)
 
 -- The emissions of a round, all in time, are queued.
 pub fair-queued : (g q bs : List Event) (es : List Edge) (hs : List ℕ) (L : ℕ) (initial running : Bool) (k : ℕ) (ms : List Message) → All (Timely hs g) ms → Fair g q bs es hs L initial running → Fair g (queue q k ms) [] es hs L initial running

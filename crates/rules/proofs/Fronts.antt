@@ -10,13 +10,14 @@ use borrow.Author.Tests.{ltb-true, ltb-false, leb-true, leb-false, eqb-true, eqb
 use Rattle.rules.specs.Base.{if_then_else_, Maybe, none, some, isSome, upFrom, upTo, any, every, nonEmpty}
 use Rattle.rules.specs.State.{Event, Edge, State, maxTick}
 use Rattle.rules.specs.Pending.{firstOf, tickOr, firstTick}
-use Rattle.rules.specs.Frontiers.{safe, below, eligible, anyEligible}
+use Rattle.rules.specs.Frontiers.{leastInto, recorded, safe, below, eligible, anyEligible}
 use Rattle.rules.specs.Refresh.{raised}
 use Rattle.rules.specs.Step.{takeEligibleAt, takeEligible, inputFrontier, newBound, raisedEdges, countRaised, anyRaised}
 use Rattle.rules.proofs.Tests.{by-test, by-bool, or-both, and-left, and-right, and-both, and-other}
-use Rattle.rules.proofs.Lists.{All, any-none}
+use Rattle.rules.proofs.Lists.{All, at-number, any-none}
 use Rattle.rules.proofs.Cases.{Advances}
-use Rattle.rules.proofs.Shape.{Joined}
+use Rattle.rules.proofs.Shape.{Joined, Recorded, shaped, below-top}
+use Rattle.rules.proofs.Recorded.{record-at}
 
 -- The least of the bounds, at most c.
 unfoldable pub lowest : List Edge → ℕ → ℕ
@@ -24,44 +25,44 @@ lowest [] c = c
 lowest (e ∷ es) c = min (e .bound) (lowest es c)
 
 -- With room, an empty batch means that nobody is eligible.
-empty-take : (es : List Edge) (H : ℕ) (q : List Event) (k : ℕ) (ps : List ℕ) → nonEmpty (takeEligible es H ps (suc k) q .events) ≡ false → anyEligible es H q ps ≡ false
+empty-take : (m : List ℕ) (H : ℕ) (q : List Event) (k : ℕ) (ps : List ℕ) → nonEmpty (takeEligible m H ps (suc k) q .events) ≡ false → anyEligible m H q ps ≡ false
 unfolding takeEligible takeEligibleAt anyEligible any nonEmpty isSome
-empty-take es H q k [] h = refl
-empty-take es H q k (p ∷ ps) h = go (eligible es H q p) h (empty-take es H q k ps)
+empty-take m H q k [] h = refl
+empty-take m H q k (p ∷ ps) h = go (eligible m H q p) h (empty-take m H q k ps)
   where
-    go : (m : Maybe Event) → nonEmpty (takeEligibleAt m p q (suc k) (takeEligible es H ps) .events) ≡ false → (nonEmpty (takeEligible es H ps (suc k) q .events) ≡ false → anyEligible es H q ps ≡ false) → isSome m || anyEligible es H q ps ≡ false
+    go : (x : Maybe Event) → nonEmpty (takeEligibleAt x p q (suc k) (takeEligible m H ps) .events) ≡ false → (nonEmpty (takeEligible m H ps (suc k) q .events) ≡ false → anyEligible m H q ps ≡ false) → isSome x || anyEligible m H q ps ≡ false
     go none h ih = ih h
     go (some e) h ih = absurd (true≢false h)
 
-none-left : (es : List Edge) (H used b : ℕ) (q : List Event) (ps : List ℕ) → nonEmpty (takeEligible es H ps (b - used) q .events) ≡ false → leb b used && anyEligible es H q ps ≡ false → anyEligible es H q ps ≡ false
-none-left es H used b q ps h k = by-bool (leb b used) (λ e. and-other (leb b used) (anyEligible es H q ps) e k) (λ e. let l : used < b = leb-false b used e in room (b - used - 1) (omega arith))
+none-left : (m : List ℕ) (H used b : ℕ) (q : List Event) (ps : List ℕ) → nonEmpty (takeEligible m H ps (b - used) q .events) ≡ false → leb b used && anyEligible m H q ps ≡ false → anyEligible m H q ps ≡ false
+none-left m H used b q ps h k = by-bool (leb b used) (λ e. and-other (leb b used) (anyEligible m H q ps) e k) (λ e. let l : used < b = leb-false b used e in room (b - used - 1) (omega arith))
   where
-    room : (r : ℕ) → b - used ≡ suc r → anyEligible es H q ps ≡ false
-    room r e = empty-take es H q r ps (rw e at h)
-
--- What holds of all numbers from i on holds of p.
-at-number : (P : ℕ → Type 0) (i n : ℕ) → All P (upFrom i n) → (p : ℕ) → i ≤ p → p < i + n → P p
-unfolding upFrom
-at-number P i zero h p a b = absurd (omega arith)
-at-number P i (suc n) h p a b = by-bool (eqb i p) (λ e. subst P (eqb-true i p e) (h .0)) (λ e. let d : ¬ (i ≡ p) = eqb-false i p e in at-number P (suc i) n (h .1) p (omega arith) (omega arith))
+    room : (r : ℕ) → b - used ≡ suc r → anyEligible m H q ps ≡ false
+    room r e = empty-take m H q r ps (rw e at h)
 
 -- At an advance nobody is eligible.
-pub none-eligible : (s : State) (h b : ℕ) → Advances s h b → (p : ℕ) → p < s .n → isSome (eligible (s .edges) (suc h) (s .pending) p) ≡ false
+pub none-eligible : (s : State) (h b : ℕ) → Advances s h b → (p : ℕ) → p < s .n → isSome (eligible (s .inbound) (suc h) (s .pending) p) ≡ false
 unfolding upTo anyEligible
 none-eligible s h b a p q =
-    let f : ℕ → Bool = λ p. isSome (eligible (s .edges) (suc h) (s .pending) p) in
-    at-number (λ p. f p ≡ false) 0 (s .n) (any-none f (upFrom 0 (s .n)) (none-left (s .edges) (suc h) (s .used) b (s .pending) (upFrom 0 (s .n)) (a .none-taken) (a .not-spent))) p (omega arith) (omega arith)
+    let f : ℕ → Bool = λ p. isSome (eligible (s .inbound) (suc h) (s .pending) p) in
+    at-number (λ p. f p ≡ false) 0 (s .n) (any-none f (upFrom 0 (s .n)) (none-left (s .inbound) (suc h) (s .used) b (s .pending) (upFrom 0 (s .n)) (a .none-taken) (a .not-spent))) p (omega arith) (omega arith)
 
 -- safe(p) is at most H, and at least the least bound.
-pub safe-le : (es : List Edge) (H p : ℕ) → safe es H p ≤ H
+pub safe-le : (m : List ℕ) (H p : ℕ) → safe m H p ≤ H
 unfolding safe
-safe-le [] H p = omega arith
-safe-le (e ∷ es) H p = let h = safe-le es H p in by-test (λ (x : ℕ). x ≤ H) (λ t. omega arith) (λ t. omega arith)
+safe-le m H p = omega arith
 
-safe-low : (es : List Edge) (H p c : ℕ) → H ≤ c → min H (lowest es c) ≤ safe es H p
-unfolding safe lowest
-safe-low [] H p c h = omega arith
-safe-low (e ∷ es) H p c h = let i = safe-low es H p c h in by-test (λ (x : ℕ). min H (min (e .bound) (lowest es c)) ≤ x) (λ t. omega arith) (λ t. omega arith)
+least-low : (es : List Edge) (T p c : ℕ) → min T (lowest es c) ≤ leastInto es T p
+unfolding leastInto lowest
+least-low [] T p c = omega arith
+least-low (e ∷ es) T p c = let i = least-low es T p c in by-test (λ (x : ℕ). min T (min (e .bound) (lowest es c)) ≤ x) (λ t. omega arith) (λ t. omega arith)
+
+lesser-low : (T H l r : ℕ) → H ≤ T → min T l ≤ r → min H l ≤ min r H
+lesser-low T H l r h i = omega arith
+
+safe-low : (n : ℕ) (m : List ℕ) (es : List Edge) (H p c : ℕ) → Recorded n m es → p < n → H ≤ maxTick → min H (lowest es c) ≤ safe m H p
+unfolding safe
+safe-low n m es H p c i q h = lesser-low maxTick H (lowest es c) (recorded m p) h (rw (record-at n m es i p q) (least-low es maxTick p c))
 
 -- Where p is not eligible, its input frontier is safe(p).
 late : (e : Event) (k : ℕ) → isSome (below k (some e)) ≡ false → k ≤ e .tick
@@ -72,21 +73,23 @@ late e k h = go (ltb (e .tick) k) refl h
     go true d h = absurd (true≢false h)
     go false d h = ltb-false (e .tick) k d
 
-frontier-safe : (s : State) (H p : ℕ) → isSome (eligible (s .edges) H (s .pending) p) ≡ false → safe (s .edges) H p ≤ inputFrontier s H p
+frontier-safe : (s : State) (H p : ℕ) → isSome (eligible (s .inbound) H (s .pending) p) ≡ false → safe (s .inbound) H p ≤ inputFrontier s H p
 unfolding eligible inputFrontier firstTick tickOr
 frontier-safe s H p h = go (firstOf (s .pending) p) h
   where
-    go : (m : Maybe Event) → isSome (below (safe (s .edges) H p) m) ≡ false → safe (s .edges) H p ≤ min (safe (s .edges) H p) (tickOr m H)
-    go none h = omega (arith, safe-le (s .edges) H p)
-    go (some e) h = omega (arith, late e (safe (s .edges) H p) h)
+    go : (m : Maybe Event) → isSome (below (safe (s .inbound) H p) m) ≡ false → safe (s .inbound) H p ≤ min (safe (s .inbound) H p) (tickOr m H)
+    go none h = omega (arith, safe-le (s .inbound) H p)
+    go (some e) h = omega (arith, late e (safe (s .inbound) H p) h)
 
 -- At an advance every process's input frontier is at the least bound or beyond, and at most H.
-pub frontier-low : (s : State) (h b c : ℕ) → Advances s h b → suc h ≤ c → (p : ℕ) → p < s .n → min (suc h) (lowest (s .edges) c) ≤ inputFrontier s (suc h) p
-frontier-low s h b c a l p q = omega (arith, frontier-safe s (suc h) p (none-eligible s h b a p q), safe-low (s .edges) (suc h) p c l)
+pub frontier-low : (s : State) (h b c : ℕ) → Advances s h b → (p : ℕ) → p < s .n → min (suc h) (lowest (s .edges) c) ≤ inputFrontier s (suc h) p
+frontier-low s h b c a p q =
+    let w = shaped s (a .steps .passes) in
+    omega (arith, frontier-safe s (suc h) p (none-eligible s h b a p q), safe-low (s .n) (s .inbound) (s .edges) (suc h) p c (w .recorded) q (below-top (s .stored) h b (a .steps .stored) (w .runs .below)))
 
 pub frontier-le : (s : State) (H p : ℕ) → inputFrontier s H p ≤ H
 unfolding inputFrontier
-frontier-le s H p = omega (arith, safe-le (s .edges) H p)
+frontier-le s H p = omega (arith, safe-le (s .inbound) H p)
 
 -- What a bound rises to is min(H, input frontier + L): overflow changes nothing where H is a tick.
 choose-low : (T H a : ℕ) → min H a ≤ (if ltb T a then H else min H a)

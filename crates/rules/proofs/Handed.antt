@@ -8,7 +8,7 @@ use lib.Dec.{eqb}
 use lib.ListN.{getD}
 use borrow.Author.Tests.{eqb-false}
 use Rattle.rules.specs.Base.{if_then_else_, some, upFrom}
-use Rattle.rules.specs.State.{Event, Message, Edge, numbered}
+use Rattle.rules.specs.State.{Event, Message, numbered}
 use Rattle.rules.specs.Pending.{insert, firstOf, withoutFirst, queue}
 use Rattle.rules.specs.Step.{BatchTaken, takeEligible}
 use Rattle.rules.specs.History.{Entry, events}
@@ -60,32 +60,32 @@ pub record Good (g : List Event) (t : BatchTaken) : Type 0 where
   pub order : Ordered (handedOn (t .events) g)
   pub above : Above (handedOn (t .events) g) (t .left)
 
-pub take-good : (es : List Edge) (H : ℕ) (ps : List ℕ) (k : ℕ) (q g : List Event) → Sorted q → Above g q → Ordered g → Good g (takeEligible es H ps k q)
+pub take-good : (mins : List ℕ) (H : ℕ) (ps : List ℕ) (k : ℕ) (q g : List Event) → Sorted q → Above g q → Ordered g → Good g (takeEligible mins H ps k q)
 unfolding takeEligible
-take-good es H [] k q g s a o = record { order = o; above = a }
-take-good es H (p ∷ ps) k q g s a o =
-    take-cases es H (λ _ t. Good g t) p ps k q (take-good es H ps k q g s a o) (record { order = o; above = a })
+take-good mins H [] k q g s a o = record { order = o; above = a }
+take-good mins H (p ∷ ps) k q g s a o =
+    take-cases mins H (λ _ t. Good g t) p ps k q (take-good mins H ps k q g s a o) (record { order = o; above = a })
     (λ j e h f l.
-    let r = take-good es H ps j (withoutFirst q p) (e ∷ g) (sorted-without q p s) (first-le q p e f s, above-without g q p a) (above-first g q p e f a, o) in
+    let r = take-good mins H ps j (withoutFirst q p) (e ∷ g) (sorted-without q p s) (first-le q p e f s, above-without g q p a) (above-first g q p e f a, o) in
     record { order = r .order; above = r .above })
 
 -- Later processes' events are none of an earlier process.
-take-keeps : (es : List Edge) (H i n k : ℕ) (q g : List Event) (b : Event) → b .destination < i → Last g b → Last (handedOn (takeEligible es H (upFrom i n) k q .events) g) b
+take-keeps : (mins : List ℕ) (H i n k : ℕ) (q g : List Event) (b : Event) → b .destination < i → Last g b → Last (handedOn (takeEligible mins H (upFrom i n) k q .events) g) b
 unfolding takeEligible upFrom
-take-keeps es H i zero k q g b l a = a
-take-keeps es H i (suc n) k q g b l a =
-    take-cases es H (λ _ t. Last (handedOn (t .events) g) b) i (upFrom (suc i) n) k q (take-keeps es H (suc i) n k q g b (omega arith) a) a
-    (λ j e h f m. take-keeps es H (suc i) n j (withoutFirst q i) (e ∷ g) b (omega arith) ((λ x. absurd (omega (arith, first-destination q i e f))), a))
+take-keeps mins H i zero k q g b l a = a
+take-keeps mins H i (suc n) k q g b l a =
+    take-cases mins H (λ _ t. Last (handedOn (t .events) g) b) i (upFrom (suc i) n) k q (take-keeps mins H (suc i) n k q g b (omega arith) a) a
+    (λ j e h f m. take-keeps mins H (suc i) n j (withoutFirst q i) (e ∷ g) b (omega arith) ((λ x. absurd (omega (arith, first-destination q i e f))), a))
 
 -- Each event taken is the last of its process.
-pub take-last : (es : List Edge) (H i n k : ℕ) (q g : List Event) → Sorted q → Above g q → All (Last (handedOn (takeEligible es H (upFrom i n) k q .events) g)) (takeEligible es H (upFrom i n) k q .events)
+pub take-last : (mins : List ℕ) (H i n k : ℕ) (q g : List Event) → Sorted q → Above g q → All (Last (handedOn (takeEligible mins H (upFrom i n) k q .events) g)) (takeEligible mins H (upFrom i n) k q .events)
 unfolding takeEligible upFrom
-take-last es H i zero k q g s a = tt
-take-last es H i (suc n) k q g s a =
-    take-cases es H (λ _ t. All (Last (handedOn (t .events) g)) (t .events)) i (upFrom (suc i) n) k q (take-last es H (suc i) n k q g s a) tt
+take-last mins H i zero k q g s a = tt
+take-last mins H i (suc n) k q g s a =
+    take-cases mins H (λ _ t. All (Last (handedOn (t .events) g)) (t .events)) i (upFrom (suc i) n) k q (take-last mins H (suc i) n k q g s a) tt
     (λ j e h f m. (
-      take-keeps es H (suc i) n j (withoutFirst q i) (e ∷ g) e (omega (arith, first-destination q i e f)) ((λ _. omega arith), above-first g q i e f a),
-      take-last es H (suc i) n j (withoutFirst q i) (e ∷ g) (sorted-without q i s) (first-le q i e f s, above-without g q i a),
+      take-keeps mins H (suc i) n j (withoutFirst q i) (e ∷ g) e (omega (arith, first-destination q i e f)) ((λ _. omega arith), above-first g q i e f a),
+      take-last mins H (suc i) n j (withoutFirst q i) (e ∷ g) (sorted-without q i s) (first-le q i e f s, above-without g q i a),
     ))
 
 -- What is queued: messages that are in time.

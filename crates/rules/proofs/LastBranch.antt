@@ -69,10 +69,10 @@ first-least (e ∷ es) d h =
 -- Where no bound rose at an advance, all were at H; then everybody's input frontier is H, and every first event is there or beyond.
 module _ (s : State) (h b : ℕ) (i : Shaped s) (a : Advances s h b) where
   pub bounds-high : (c : ℕ) → suc h ≤ c → nullMessagesOf s (suc h) ≡ 0 → suc h ≤ lowest (s .edges) c
-  bounds-high c l z = omega (arith, i .sized .ahead, low-unraised s (suc h) (min (suc h) (lowest (s .edges) c)) (frontier-low s h b c a l) (s .edges) c (i .wired .joined) z)
+  bounds-high c l z = omega (arith, i .sized .ahead, low-unraised s (suc h) (min (suc h) (lowest (s .edges) c)) (frontier-low s h b c a) (s .edges) c (i .wired .joined) z)
 
   pub frontiers-high : nullMessagesOf s (suc h) ≡ 0 → (p : ℕ) → p < s .n → suc h ≤ inputFrontier s (suc h) p
-  frontiers-high z p q = omega (arith, frontier-low s h b (suc h) a (omega arith) p q, bounds-high (suc h) (omega arith) z)
+  frontiers-high z p q = omega (arith, frontier-low s h b (suc h) a p q, bounds-high (suc h) (omega arith) z)
 
   pub horizons-high : (to : ℕ → ℕ) → nullMessagesOf s (suc h) ≡ 0 → every (leb (suc h)) (raised to 0 (newHorizons s (suc h))) ≡ true
   horizons-high to z = all-stay to (suc h) 0 (newHorizons s (suc h)) (all-raised (inputFrontier s (suc h)) (suc h) 0 (s .horizons) (λ p q. frontiers-high z p (omega (arith, i .sized .wide))))
@@ -94,7 +94,7 @@ module _ (s : State) (h b : ℕ) (i : Shaped s) (a : Advances s h b) where
 
   finished : anyAdvanced s (suc h) ≡ false → complete (advanced s h) (suc h) ≡ true
   unfolding complete refreshed
-  finished r = and-both (every (leb (suc h)) (raised (refreshTo (s .edges) (suc h) (s .pending)) 0 (newHorizons s (suc h)))) (every (λ e. leb (suc h) (e .tick)) (s .pending)) (horizons-high _ (none-sent r)) (pending-high (none-sent r))
+  finished r = and-both (every (leb (suc h)) (raised (refreshTo (s .inbound) (suc h) (s .pending)) 0 (newHorizons s (suc h)))) (every (λ e. leb (suc h) (e .tick)) (s .pending)) (horizons-high _ (none-sent r)) (pending-high (none-sent r))
 
 pub never-last-branch : (s : State) (h b : ℕ) → Shaped s → Advances s h b → anyAdvanced s (suc h) ≡ false → complete (advanced s h) (suc h) ≡ true
 never-last-branch s h b i a r = finished s h b i a r

@@ -9,6 +9,7 @@ pub mod Table
 pub mod Cases
 -- What every call keeps, each file on those before it: the counts and the sum, ..
 pub mod Shape
+pub mod Recorded
 pub mod Counts
 pub mod Tally
 pub mod TallyCalls

@@ -1,14 +1,16 @@
 -- What holds of every element of a list, the tests `any`, `every` and `nonEmpty`, and sums.
-use mathlib.Core.Path.{_≡_, refl, sym}
+use mathlib.Core.Path.{_≡_, refl, sym, subst}
 use mathlib.Core.Bool.{Bool, true, false, _||_, true≢false}
 use mathlib.Core.List.{List, [], _∷_, _++_, map}
-use Prim.Native.Nat.{ℕ, _+_, _≤_, _<_}
+use Prim.Native.Nat.{ℕ, zero, suc, _+_, _≤_, _<_}
 use native.Mathlib.Numerals.{add-one}
 use native.Mathlib.Omega.{arith}
 use lib.ListN.{length, getD, drop, drop-of-length-le}
 use lib.Seq.{drop-cons}
-use Rattle.rules.specs.Base.{any, every, nonEmpty, sum}
-use Rattle.rules.proofs.Tests.{or-left, or-right, or-both, and-both}
+use lib.Dec.{eqb}
+use borrow.Author.Tests.{eqb-true, eqb-false}
+use Rattle.rules.specs.Base.{upFrom, any, every, nonEmpty, sum}
+use Rattle.rules.proofs.Tests.{by-bool, or-left, or-right, or-both, and-both}
 
 abbrev pub All : {A : Type 0} → (A → Type 0) → List A → Type 0
 All P [] = Unit {0}
@@ -41,6 +43,17 @@ all-of P f (x ∷ xs) = (f x, all-of P f xs)
 pub all-mapped : {A B : Type 0} (P : B → Type 0) (f : A → B) (xs : List A) → All (λ a. P (f a)) xs → All P (map f xs)
 all-mapped P f [] i = tt
 all-mapped P f (x ∷ xs) i = (i .0, all-mapped P f xs (i .1))
+
+-- What holds of all numbers from i on, n of them, and of each.
+pub at-number : (P : ℕ → Type 0) (i n : ℕ) → All P (upFrom i n) → (p : ℕ) → i ≤ p → p < i + n → P p
+unfolding upFrom
+at-number P i zero h p a b = absurd (omega arith)
+at-number P i (suc n) h p a b = by-bool (eqb i p) (λ e. subst P (eqb-true i p e) (h .0)) (λ e. let d : ¬ (i ≡ p) = eqb-false i p e in at-number P (suc i) n (h .1) p (omega arith) (omega arith))
+
+pub all-number : (P : ℕ → Type 0) (i n : ℕ) → ((p : ℕ) → i ≤ p → p < i + n → P p) → All P (upFrom i n)
+unfolding upFrom
+all-number P i zero f = tt
+all-number P i (suc n) f = (f i (omega arith) (omega arith), all-number P (suc i) n (λ p a b. f p (omega arith) (omega arith)))
 
 -- All of all, the other way round.
 module _ {A B : Type 0} (P : A → B → Type 0) where

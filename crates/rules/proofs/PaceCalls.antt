@@ -41,7 +41,7 @@ module _ (s : State) (h b : ℕ) (w : Shaped s) (a : Advances s h b) (k : Counts
 
   -- Everybody's input frontier is at the front or beyond.
   low : (p : ℕ) → p < s .n → min (suc h) (front (k .end) (s .lookahead) (s .edges)) ≤ inputFrontier s (suc h) p
-  low = frontier-low s h b (max (k .end) (s .lookahead)) a (omega (arith, end-is))
+  low = frontier-low s h b (max (k .end) (s .lookahead)) a
 
   -- A bound rose: the front was below the end, and rose.
   front-low : 0 < nullMessagesOf s (suc h) → front (k .end) (s .lookahead) (s .edges) < k .end
@@ -147,11 +147,11 @@ module _ (y : History) (w : Shaped (y .now)) (i : Paced y) where
   unfolding Paced isBegin isHandBack isAdvanced refreshed
   step-rise h b a t c =
       going-moved y Step (Advanced (advanced (y .now) h .gvt)) (advanced (y .now) h) c (record { begins = refl; advanced = refl; commits = refl })
-      (pace-rose (y .now) h b w a (countsOf (y .entries)) i (refreshTo (y .now .edges) (suc h) (y .now .pending)) t)
+      (pace-rose (y .now) h b w a (countsOf (y .entries)) i (refreshTo (y .now .inbound) (suc h) (y .now .pending)) t)
 
   step-still : (h b : ℕ) → Advances (y .now) h b → At (y .entries) (advanced (y .now) h)
   unfolding Paced At refreshed
-  step-still h b a = shifted (y .now) h b w a (countsOf (y .entries)) i (refreshTo (y .now .edges) (suc h) (y .now .pending))
+  step-still h b a = shifted (y .now) h b w a (countsOf (y .entries)) i (refreshTo (y .now .inbound) (suc h) (y .now .pending))
 
   going-step : Going y Step (rule (y .now) (y .counters) Step)
   unfolding rule Paced At isAdvanced
@@ -182,7 +182,7 @@ module _ (y : History) (mask : ℕ) (xs : List Emission) (w : Shaped (y .now)) (
   unfolding isBegin isHandBack refused isCommitted isAdvanced number
   back-commits g s c e j = going-returned y (HandBack mask xs) (Committed g) s c (record { begins = refl; advanced = refl; commits = refl }) (some-in-hand e) j
 
-  back-refreshed : (h : ℕ) → At (y .entries) (refreshed (handled (y .now) xs) h (y .now .edges) (y .now .edges) (y .now .horizons))
+  back-refreshed : (h : ℕ) → At (y .entries) (refreshed (handled (y .now) xs) h (y .now .edges) (y .now .inbound) (y .now .horizons))
   unfolding Paced At refreshed
   back-refreshed h = pace-stay (countsOf (y .entries)) (y .now .lookahead) (y .now .edges) (y .now .edges) (y .now .horizons) _ (y .now .stored) i refl (omega arith) (all-stay _ (countsOf (y .entries) .end) 0 (y .now .horizons))
 

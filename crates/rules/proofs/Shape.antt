@@ -1,16 +1,17 @@
 -- What 11 tells of a state that it lets pass, and that such facts make 11 pass.
-use mathlib.Core.Path.{_≡_, ap}
+use mathlib.Core.Path.{_≡_, ap, sym, _∙_}
 use mathlib.Core.Bool.{Bool, true, false, not, _&&_}
 use mathlib.Core.List.{List, [], _∷_}
-use Prim.Native.Nat.{ℕ, _≤_, _<_}
+use Prim.Native.Nat.{ℕ, suc, _≤_, _<_}
 use native.Mathlib.Omega.{arith}
 use lib.Dec.{leb, ltb, eqb}
 use lib.ListN.{length}
 use borrow.Author.Tests.{leb-false, ltb-false, eqb-true, eqb-false, lt-leb, le-ltb, eq-eqb, ne-eqb}
-use Rattle.rules.specs.Base.{any, anyOf, nonEmpty, rising}
-use Rattle.rules.specs.State.{Event, Edge, Stored, unset, State}
+use Rattle.rules.specs.Base.{upTo, any, anyOf, nonEmpty, rising}
+use Rattle.rules.specs.State.{Event, Edge, Stored, unset, stored, State, maxTick}
 use Rattle.rules.specs.Pending.{before}
-use Rattle.rules.specs.Foreign.{longPayload, overLimit, unknownIdEdge, unknownIdEvent, unknownId, duplicateOrSelfEdges, horizonIsMax, isUnset, byProcess, clauses, foreign}
+use Rattle.rules.specs.Frontiers.{leastInbound, recorded}
+use Rattle.rules.specs.Foreign.{longPayload, overLimit, unknownIdEdge, unknownIdEvent, unknownId, duplicateOrSelfEdges, horizonIsMax, isUnset, wrongRecord, byProcess, clauses, foreign}
 use Rattle.rules.proofs.Tests.{or-left, or-right, or-both, and-other, not-false, not-of-true, not-both}
 use Rattle.rules.proofs.Lists.{All, all-map, any-none, none-any}
 
@@ -55,12 +56,18 @@ pub record Runs (limits : Stored) (bs : List Event) (running : Bool) : Type 0 wh
   pub stored : running && isUnset limits ≡ false
   pub opened : nonEmpty bs && not running ≡ false
 
+-- A.2's record m is right of the edges es.
+pub record Recorded (n : ℕ) (m : List ℕ) (es : List Edge) : Type 0 where
+  pub wide : length m ≡ n
+  pub right : All (λ p. recorded m p ≡ leastInbound es p) (upTo n)
+
 pub record Shaped (s : State) : Type 0 where
   pub sized : Sized (s .n) (s .lookahead) (s .horizons)
   pub wired : Wired (s .n) (s .edges)
   pub queued : Queued (s .n) (s .next) (s .pending)
   pub held : Held (s .n) (s .batch)
   pub runs : Runs (s .stored) (s .batch) (s .running)
+  pub recorded : Recorded (s .n) (s .inbound) (s .edges)
 
 long-short : (e : Event) → longPayload e ≡ false → Short e
 long-short e h = record { payload = ltb-false 16 (length (e .payload)) h }
@@ -97,7 +104,7 @@ unfolding anyOf
 none-of ts i = none-any (λ t. t) ts i
 
 pub shaped : (s : State) → foreign s ≡ false → Shaped s
-unfolding foreign overLimit unknownId
+unfolding foreign overLimit unknownId wrongRecord
 shaped s h =
     let c = alls (clauses s) h in
     let l = alls (ltb 512 (length (s .edges)) ∷ ltb 512 (length (s .pending)) ∷ ltb 64 (length (s .batch)) ∷ any longPayload (s .pending) ∷ any longPayload (s .batch) ∷ []) (c .1 .1 .0) in
@@ -107,7 +114,7 @@ shaped s h =
         some = let x : eqb (s .n) 0 ≡ false = or-left (eqb (s .n) 0) (ltb 64 (s .n)) (c .0) in let z : (s .n ≡ 0 → ⊥) = eqb-false (s .n) 0 x in omega arith;
         few = ltb-false 64 (s .n) (or-right (eqb (s .n) 0) (ltb 64 (s .n)) (c .0));
         ahead = let z : (s .lookahead ≡ 0 → ⊥) = eqb-false (s .lookahead) 0 (c .1 .0) in omega arith;
-        wide = eqb-true (length (s .horizons)) (s .n) (not-false _ (c .1 .1 .1 .1 .1 .1 .1 .1 .1 .1 .1 .0));
+        wide = eqb-true (length (s .horizons)) (s .n) (not-false _ (c .1 .1 .1 .1 .1 .1 .1 .1 .1 .1 .1 .1 .0));
       };
       wired = record { few = ltb-false 512 _ (l .0); joined = told (unknownIdEdge (s .n)) (Joined (s .n)) (unknown-joined (s .n)) (s .edges) (k .0); once = c .1 .1 .1 .1 .0 };
       queued = record {
@@ -124,10 +131,14 @@ shaped s h =
         order = not-false _ (c .1 .1 .1 .1 .1 .1 .1 .1 .1 .1 .0);
       };
       runs = record { below = c .1 .1 .1 .1 .1 .1 .1 .0; stored = c .1 .1 .1 .1 .1 .1 .1 .1 .0; opened = c .1 .1 .1 .1 .1 .1 .1 .1 .1 .0 };
+      recorded = record {
+        wide = eqb-true (length (s .inbound)) (s .n) (not-false _ (c .1 .1 .1 .1 .1 .1 .1 .1 .1 .1 .1 .1 .1 .0));
+        right = told (λ p. not (eqb (recorded (s .inbound) p) (leastInbound (s .edges) p))) (λ p. recorded (s .inbound) p ≡ leastInbound (s .edges) p) (λ p x. eqb-true _ _ (not-false _ x)) (upTo (s .n)) (c .1 .1 .1 .1 .1 .1 .1 .1 .1 .1 .1 .0);
+      };
     }
 
 pub passes-11 : (s : State) → Shaped s → foreign s ≡ false
-unfolding foreign overLimit unknownId
+unfolding foreign overLimit unknownId wrongRecord
 passes-11 s i =
     none-of (clauses s) (
       or-both (eqb (s .n) 0) (ltb 64 (s .n)) (ne-eqb (s .n) 0 (λ e. omega (arith, i .sized .some))) (le-ltb 64 (s .n) (i .sized .few)),
@@ -152,8 +163,8 @@ passes-11 s i =
                         (
                           not-of-true _ (i .held .order),
                           (
-                            not-of-true _ (eq-eqb (length (s .horizons)) (s .n) (i .sized .wide)),
-                            tt,
+                            tells (λ p. not (eqb (recorded (s .inbound) p) (leastInbound (s .edges) p))) (λ p. recorded (s .inbound) p ≡ leastInbound (s .edges) p) (λ p x. not-of-true _ (eq-eqb _ _ x)) (upTo (s .n)) (i .recorded .right),
+                            (not-of-true _ (eq-eqb (length (s .horizons)) (s .n) (i .sized .wide)), (not-of-true _ (eq-eqb (length (s .inbound)) (s .n) (i .recorded .wide)), tt)),
                           ),
                         ),
                       ),
@@ -176,3 +187,8 @@ pub no-horizon-never {κ} : {C : Type κ} (s : State) → Shaped s → nonEmpty 
 no-horizon-never s w b e =
     let r : s .running ≡ true = not-false (s .running) (and-other (nonEmpty (s .batch)) (not (s .running)) b (w .runs .opened)) in
     not-both (unset-is (s .stored) e) (and-other (s .running) (isUnset (s .stored)) r (w .runs .stored))
+
+-- A stored horizon is below the largest tick.
+pub below-top : (l : Stored) (h b : ℕ) → l ≡ stored h b → horizonIsMax l ≡ false → suc h ≤ maxTick
+unfolding horizonIsMax
+below-top l h b e a = leb-false maxTick h (ap horizonIsMax (sym e) ∙ a)

@@ -11,16 +11,18 @@ use Rattle.rules.specs.Base.{upTo, upFrom, any, nonEmpty, rising}
 use Rattle.rules.specs.State.{Event, Message, Edge, Stored, stored, State, Counters, numbered, withPending, withRun, withBatch, closed, poison, maxTick}
 use Rattle.rules.specs.Rows.{Out, Row}
 use Rattle.rules.specs.Pending.{joins, insert, queue}
-use Rattle.rules.specs.Foreign.{duplicateOrSelfEdges, horizonIsMax, isUnset, byProcess}
+use Rattle.rules.specs.Frontiers.{leastInbound, recorded}
+use Rattle.rules.specs.Foreign.{duplicateOrSelfEdges, horizonIsMax, isUnset, byProcess, foreign}
 use Rattle.rules.specs.Refresh.{raised, refreshed}
-use Rattle.rules.specs.Step.{takeEligible, takenAt, raisedEdges, newHorizons, advanced}
+use Rattle.rules.specs.Step.{newEdges, takeEligible, takenAt, raisedEdges, newHorizons, advanced}
 use Rattle.rules.specs.HandBack.{Emission, malformed, processRows, messages, handled}
 use Rattle.rules.specs.Calls.{Call, AddInitial, Begin, Step, HandBack, rule}
 use Rattle.rules.proofs.Tests.{by-bool, and-off, and-other, not-false, not-both}
 use Rattle.rules.proofs.Lists.{All, all-map, all-mapped, all-front, all-rest, empty-nil}
 use Rattle.rules.proofs.Table.{Passed}
 use Rattle.rules.proofs.Cases.{InitialPassed, by-initial, BeginPassed, by-begin, Steps, by-step, Commits, by-back}
-use Rattle.rules.proofs.Shape.{Short, Known, Joined, Sized, Wired, Queued, Held, Runs, Shaped}
+use Rattle.rules.proofs.Shape.{Short, Known, Joined, Sized, Wired, Queued, Held, Runs, Shaped, shaped}
+use Rattle.rules.proofs.Recorded.{record-at, recorded-anew}
 use Rattle.rules.proofs.Tally.{length-insert, length-messages, take-shorter}
 use Rattle.rules.proofs.Order.{pairs-rising, sorted, sorted-rises, all-insert, Apart, sorted-insert}
 use Rattle.rules.proofs.Checks.{each-emission}
@@ -88,21 +90,21 @@ held-none : (n : ℕ) → Held n []
 unfolding rising
 held-none n = record { few = omega arith; short = tt; known = tt; order = refl }
 
-held-taken : (es : List Edge) (H n k : ℕ) (q : List Event) → n ≤ 64 → All Short q → All (Known n) q → Held n (takeEligible es H (upFrom 0 n) k q .events)
-held-taken es H n k q f a b = record {
-  few = omega (arith, take-few es H (upFrom 0 n) k q, upFrom-length 0 n);
-  short = take-all Short es H (upFrom 0 n) k q a .events;
-  known = take-all (Known n) es H (upFrom 0 n) k q b .events;
-  order = pairs-rising byProcess Ascend (λ x y h. lt-ltb (x .destination) (y .destination) h) _ (take-rises es H 0 n k q .rise);
+held-taken : (m : List ℕ) (H n k : ℕ) (q : List Event) → n ≤ 64 → All Short q → All (Known n) q → Held n (takeEligible m H (upFrom 0 n) k q .events)
+held-taken m H n k q f a b = record {
+  few = omega (arith, take-few m H (upFrom 0 n) k q, upFrom-length 0 n);
+  short = take-all Short m H (upFrom 0 n) k q a .events;
+  known = take-all (Known n) m H (upFrom 0 n) k q b .events;
+  order = pairs-rising byProcess Ascend (λ x y h. lt-ltb (x .destination) (y .destination) h) _ (take-rises m H 0 n k q .rise);
 }
 
-queued-taken : (es : List Edge) (H n next k : ℕ) (ps : List ℕ) (q : List Event) → Queued n next q → Queued n next (takeEligible es H ps k q .left)
-queued-taken es H n next k ps q i = record {
-  few = omega (arith, take-shorter es H ps k q, i .few);
-  short = take-all Short es H ps k q (i .short) .left;
-  known = take-all (Known n) es H ps k q (i .known) .left;
-  order = sorted-rises _ (take-sorted es H ps k q (sorted q (i .order)));
-  numbers = take-all (λ (e : Event). e .sequence < next) es H ps k q (i .numbers) .left;
+queued-taken : (m : List ℕ) (H n next k : ℕ) (ps : List ℕ) (q : List Event) → Queued n next q → Queued n next (takeEligible m H ps k q .left)
+queued-taken m H n next k ps q i = record {
+  few = omega (arith, take-shorter m H ps k q, i .few);
+  short = take-all Short m H ps k q (i .short) .left;
+  known = take-all (Known n) m H ps k q (i .known) .left;
+  order = sorted-rises _ (take-sorted m H ps k q (sorted q (i .order)));
+  numbers = take-all (λ (e : Event). e .sequence < next) m H ps k q (i .numbers) .left;
 }
 
 -- Runs
@@ -148,26 +150,28 @@ module _ (s : State) (c : Counters) (w : Shaped s) where
     queued = queued-insert (s .n) (s .next) (s .pending) m (record { source = i .source; destination = i .destination; payload = i .payload }) (i .room) (w .queued);
     held = w .held;
     runs = w .runs;
+    recorded = w .recorded;
   }
 
   shape-begin : (h b : ℕ) → BeginPassed s h → Shaped (withRun s h b)
-  shape-begin h b i = record { sized = w .sized; wired = w .wired; queued = w .queued; held = w .held; runs = runs-begun h b (s .batch) (idle-empty s w (i .idle)) (i .below) }
+  shape-begin h b i = record { sized = w .sized; wired = w .wired; queued = w .queued; held = w .held; runs = runs-begun h b (s .batch) (idle-empty s w (i .idle)) (i .below); recorded = w .recorded }
 
   shape-batch : (h b : ℕ) → Steps s h b → Shaped (withBatch s (takenAt s h b .events) (takenAt s h b .left))
   unfolding upTo
   shape-batch h b i = record {
     sized = w .sized;
     wired = w .wired;
-    queued = queued-taken (s .edges) (suc h) (s .n) (s .next) (b - s .used) (upTo (s .n)) (s .pending) (w .queued);
-    held = held-taken (s .edges) (suc h) (s .n) (b - s .used) (s .pending) (w .sized .few) (w .queued .short) (w .queued .known);
+    queued = queued-taken (s .inbound) (suc h) (s .n) (s .next) (b - s .used) (upTo (s .n)) (s .pending) (w .queued);
+    held = held-taken (s .inbound) (suc h) (s .n) (b - s .used) (s .pending) (w .sized .few) (w .queued .short) (w .queued .known);
     runs = runs-batch (s .stored) (s .batch) (takenAt s h b .events) (s .running) (i .open-run) (w .runs);
+    recorded = w .recorded;
   }
 
   shape-closed : s .batch ≡ [] → Shaped (closed s)
-  shape-closed z = record { sized = w .sized; wired = w .wired; queued = w .queued; held = w .held; runs = runs-closed (s .stored) (s .batch) (s .running) z (w .runs) }
+  shape-closed z = record { sized = w .sized; wired = w .wired; queued = w .queued; held = w .held; runs = runs-closed (s .stored) (s .batch) (s .running) z (w .runs); recorded = w .recorded }
 
   shape-poison : Shaped (poison s)
-  shape-poison = record { sized = w .sized; wired = w .wired; queued = w .queued; held = held-none (s .n); runs = runs-empty (s .stored) (s .running) (w .runs .below) (w .runs .stored) }
+  shape-poison = record { sized = w .sized; wired = w .wired; queued = w .queued; held = held-none (s .n); runs = runs-empty (s .stored) (s .running) (w .runs .below) (w .runs .stored); recorded = w .recorded }
 
   shape-advanced : (h : ℕ) → Shaped (advanced s h)
   unfolding refreshed
@@ -177,6 +181,7 @@ module _ (s : State) (c : Counters) (w : Shaped s) where
     queued = w .queued;
     held = w .held;
     runs = w .runs;
+    recorded = recorded-anew (s .n) (newEdges s (suc h));
   }
 
   few-enough : (mask : ℕ) (xs : List Emission) (h b : ℕ) → Commits s mask xs h b → length (s .pending) + length xs ≤ 512
@@ -189,11 +194,12 @@ module _ (s : State) (c : Counters) (w : Shaped s) where
     queued = rw (length-messages xs) at (queued-all (s .n) (s .next) (s .pending) (messages xs) (fits s mask xs w (i .reply .formed) (all-front (λ (r : Row). r .test ≡ false) (processRows s mask xs (s .batch)) _ (i .passed))) (omega (arith, few-enough mask xs h b i, length-messages xs)) (w .queued));
     held = held-none (s .n);
     runs = runs-empty (s .stored) (s .running) (w .runs .below) (w .runs .stored);
+    recorded = w .recorded;
   }
 
-shape-refreshed : (s : State) (h : ℕ) → Shaped s → Shaped (refreshed s h (s .edges) (s .edges) (s .horizons))
+shape-refreshed : (s : State) (h : ℕ) → Shaped s → Shaped (refreshed s h (s .edges) (s .inbound) (s .horizons))
 unfolding refreshed
-shape-refreshed s h w = record { sized = sized-raised (s .n) (s .lookahead) (s .horizons) _ (w .sized); wired = w .wired; queued = w .queued; held = w .held; runs = w .runs }
+shape-refreshed s h w = record { sized = sized-raised (s .n) (s .lookahead) (s .horizons) _ (w .sized); wired = w .wired; queued = w .queued; held = w .held; runs = w .runs; recorded = w .recorded }
 
 pub shape-kept : (s : State) (c : Counters) (k : Call) → Shaped s → Shapes (rule s c k)
 unfolding rule Shapes
@@ -218,3 +224,8 @@ shape-kept s c (HandBack mask xs) w = by-back s c mask xs (λ o. Shapes o) (reco
   spends = λ h b i. shape-closed (handled s xs) c (shape-handled s c w mask xs h b i) refl;
   commits = λ h b i. shape-refreshed (handled s xs) h (shape-handled s c w mask xs h b i);
 })
+
+-- A.2: the record is "right after every call not refused with 11".
+pub record-kept : (s : State) (c : Counters) (k : Call) → foreign s ≡ false → (p : ℕ) → p < rule s c k .after .n → recorded (rule s c k .after .inbound) p ≡ leastInbound (rule s c k .after .edges) p
+unfolding Shapes
+record-kept s c k f p l = record-at _ _ _ (shape-kept s c k (shaped s f) .recorded) p l

@@ -1,15 +1,15 @@
 -- Each holds by computation.
 use mathlib.Core.Path.{refl}
 use Rattle.rules.specs.Opened.{all-rules}
-use Rattle.rules.specs.Rehearsals.{pair, carryOn, outs, answers, nullMessagesCounted}
-use Rattle.rules.specs.Slips.{Reached, SlipsNoticed, stateAfter, after}
+use Rattle.rules.specs.Rehearsals.{pair, one-way, carryOn, outs, answers, nullMessagesCounted}
+use Rattle.rules.specs.Slips.{Reached, SlipsNoticed, two-into-one, stateAfter, after}
 
 pub reached-by-calls : Reached
 unfolding all-rules pair stateAfter after
 reached-by-calls = record { in-hand-reached = refl; poisoned-reached = refl; last-reached = refl; two-reached = refl; no-budget-reached = refl }
 
 pub slips-noticed : SlipsNoticed
-unfolding all-rules pair carryOn outs answers nullMessagesCounted
+unfolding all-rules pair one-way carryOn outs answers nullMessagesCounted stateAfter two-into-one
 slips-noticed = record {
   part-of-a-round = λ c. refl;
   spent-without-refresh = refl;
@@ -25,5 +25,9 @@ slips-noticed = record {
   bounds-alone = refl;
   bounds-alone-counted = refl;
   counters-stop = refl;
+  wrong-record = λ c. refl;
+  record-built = refl;
+  record-advanced = refl;
+  behind-horizon = refl;
   short-list-first = refl;
 }

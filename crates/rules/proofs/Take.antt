@@ -8,7 +8,7 @@ use lib.Dec.{ltb}
 use lib.ListN.{length}
 use borrow.Author.Tests.{ltb-true}
 use Rattle.rules.specs.Base.{if_then_else_, Maybe, none, some, upFrom}
-use Rattle.rules.specs.State.{Event, Edge}
+use Rattle.rules.specs.State.{Event}
 use Rattle.rules.specs.Pending.{firstOf, withoutFirst}
 use Rattle.rules.specs.Frontiers.{safe, below, eligible}
 use Rattle.rules.specs.Step.{BatchTaken, takeEligibleAt, takeEligible}
@@ -27,16 +27,16 @@ below-safe k (some f) e h = go (ltb (f .tick) k) refl h
     go false d h = let z : _≡_ {A = ℕ} 0 1 = cc in absurd (omega arith)
 
 -- What taking does at one process, for a statement about what is taken and left: nobody, no room, or its first event.
-module _ (es : List Edge) (H : ℕ) (Q : List Event → BatchTaken → Type 0) where
+module _ (mins : List ℕ) (H : ℕ) (Q : List Event → BatchTaken → Type 0) where
   pub take-cases : (p : ℕ) (ps : List ℕ) (k : ℕ) (q : List Event)
-      → (Q q (takeEligible es H ps k q))
+      → (Q q (takeEligible mins H ps k q))
       → (Q q (record { events = []; left = q }))
-      → ((j : ℕ) (e : Event) → k ≡ suc j → firstOf q p ≡ some e → e .tick < safe es H p → Q q (record { events = e ∷ takeEligible es H ps j (withoutFirst q p) .events; left = takeEligible es H ps j (withoutFirst q p) .left }))
-      → Q q (takeEligible es H (p ∷ ps) k q)
+      → ((j : ℕ) (e : Event) → k ≡ suc j → firstOf q p ≡ some e → e .tick < safe mins H p → Q q (record { events = e ∷ takeEligible mins H ps j (withoutFirst q p) .events; left = takeEligible mins H ps j (withoutFirst q p) .left }))
+      → Q q (takeEligible mins H (p ∷ ps) k q)
   unfolding takeEligible takeEligibleAt eligible
-  take-cases p ps k q a b c = go (below (safe es H p) (firstOf q p)) refl k refl
+  take-cases p ps k q a b c = go (below (safe mins H p) (firstOf q p)) refl k refl
     where
-      go : (m : Maybe Event) → below (safe es H p) (firstOf q p) ≡ m → (j : ℕ) → k ≡ j → Q q (takeEligibleAt m p q j (takeEligible es H ps))
+      go : (m : Maybe Event) → below (safe mins H p) (firstOf q p) ≡ m → (j : ℕ) → k ≡ j → Q q (takeEligibleAt m p q j (takeEligible mins H ps))
       go none e j h = rw (← h) a
       go (some f) e zero h = b
       go (some f) e (suc j) h = c j f h (eligible-first _ _ f e) (below-safe _ _ f e)
@@ -46,34 +46,34 @@ pub record Both (P : Event → Type 0) (t : BatchTaken) : Type 0 where
   pub events : All P (t .events)
   pub left : All P (t .left)
 
-pub take-all : (P : Event → Type 0) (es : List Edge) (H : ℕ) (ps : List ℕ) (k : ℕ) (q : List Event) → All P q → Both P (takeEligible es H ps k q)
+pub take-all : (P : Event → Type 0) (mins : List ℕ) (H : ℕ) (ps : List ℕ) (k : ℕ) (q : List Event) → All P q → Both P (takeEligible mins H ps k q)
 unfolding takeEligible
-take-all P es H [] k q i = record { events = tt; left = i }
-take-all P es H (p ∷ ps) k q i =
-    take-cases es H (λ _ t. Both P t) p ps k q (take-all P es H ps k q i) (record { events = tt; left = i })
-    (λ j e h f l. let r = take-all P es H ps j (withoutFirst q p) (all-without P q p i) in record { events = (all-first P q p e f i, r .events); left = r .left })
+take-all P mins H [] k q i = record { events = tt; left = i }
+take-all P mins H (p ∷ ps) k q i =
+    take-cases mins H (λ _ t. Both P t) p ps k q (take-all P mins H ps k q i) (record { events = tt; left = i })
+    (λ j e h f l. let r = take-all P mins H ps j (withoutFirst q p) (all-without P q p i) in record { events = (all-first P q p e f i, r .events); left = r .left })
 
 -- What is left is still in order.
-pub take-sorted : (es : List Edge) (H : ℕ) (ps : List ℕ) (k : ℕ) (q : List Event) → Sorted q → Sorted (takeEligible es H ps k q .left)
+pub take-sorted : (mins : List ℕ) (H : ℕ) (ps : List ℕ) (k : ℕ) (q : List Event) → Sorted q → Sorted (takeEligible mins H ps k q .left)
 unfolding takeEligible
-take-sorted es H [] k q i = i
-take-sorted es H (p ∷ ps) k q i =
-    take-cases es H (λ _ t. Sorted (t .left)) p ps k q (take-sorted es H ps k q i) i (λ j e h f l. take-sorted es H ps j (withoutFirst q p) (sorted-without q p i))
+take-sorted mins H [] k q i = i
+take-sorted mins H (p ∷ ps) k q i =
+    take-cases mins H (λ _ t. Sorted (t .left)) p ps k q (take-sorted mins H ps k q i) i (λ j e h f l. take-sorted mins H ps j (withoutFirst q p) (sorted-without q p i))
 
 -- At most one event of each process.
-pub take-few : (es : List Edge) (H : ℕ) (ps : List ℕ) (k : ℕ) (q : List Event) → length (takeEligible es H ps k q .events) ≤ length ps
+pub take-few : (mins : List ℕ) (H : ℕ) (ps : List ℕ) (k : ℕ) (q : List Event) → length (takeEligible mins H ps k q .events) ≤ length ps
 unfolding takeEligible
-take-few es H [] k q = omega arith
-take-few es H (p ∷ ps) k q =
-    take-cases es H (λ _ t. length (t .events) ≤ suc (length ps)) p ps k q (omega (arith, take-few es H ps k q)) (omega arith) (λ j e h f l. omega (arith, take-few es H ps j (withoutFirst q p)))
+take-few mins H [] k q = omega arith
+take-few mins H (p ∷ ps) k q =
+    take-cases mins H (λ _ t. length (t .events) ≤ suc (length ps)) p ps k q (omega (arith, take-few mins H ps k q)) (omega arith) (λ j e h f l. omega (arith, take-few mins H ps j (withoutFirst q p)))
 
 -- Each event taken is below the frontier of its process.
-pub take-safe : (es : List Edge) (H : ℕ) (ps : List ℕ) (k : ℕ) (q : List Event) → All (λ (b : Event). b .tick < safe es H (b .destination)) (takeEligible es H ps k q .events)
+pub take-safe : (mins : List ℕ) (H : ℕ) (ps : List ℕ) (k : ℕ) (q : List Event) → All (λ (b : Event). b .tick < safe mins H (b .destination)) (takeEligible mins H ps k q .events)
 unfolding takeEligible
-take-safe es H [] k q = tt
-take-safe es H (p ∷ ps) k q =
-    take-cases es H (λ _ t. All (λ (b : Event). b .tick < safe es H (b .destination)) (t .events)) p ps k q (take-safe es H ps k q) tt
-    (λ j e h f l. (rw (first-destination q p e f) l, take-safe es H ps j (withoutFirst q p)))
+take-safe mins H [] k q = tt
+take-safe mins H (p ∷ ps) k q =
+    take-cases mins H (λ _ t. All (λ (b : Event). b .tick < safe mins H (b .destination)) (t .events)) p ps k q (take-safe mins H ps k q) tt
+    (λ j e h f l. (rw (first-destination q p e f) l, take-safe mins H ps j (withoutFirst q p)))
 
 -- The events rise by process, from the first process asked on.
 abbrev pub Ascend : Event → Event → Type 0
@@ -86,17 +86,17 @@ pub record Rises (i : ℕ) (t : BatchTaken) : Type 0 where
 rises-later : (i : ℕ) (t : BatchTaken) → Rises (suc i) t → Rises i t
 rises-later i t r = record { from = all-map (λ (e : Event). suc i ≤ e .destination) (λ (e : Event). i ≤ e .destination) (λ e x. omega arith) (t .events) (r .from); rise = r .rise }
 
-pub take-rises : (es : List Edge) (H i n k : ℕ) (q : List Event) → Rises i (takeEligible es H (upFrom i n) k q)
+pub take-rises : (mins : List ℕ) (H i n k : ℕ) (q : List Event) → Rises i (takeEligible mins H (upFrom i n) k q)
 unfolding takeEligible upFrom
-take-rises es H i zero k q = record { from = tt; rise = tt }
-take-rises es H i (suc n) k q =
-    take-cases es H (λ _ t. Rises i t) i (upFrom (suc i) n) k q (rises-later i _ (take-rises es H (suc i) n k q)) (record { from = tt; rise = tt })
+take-rises mins H i zero k q = record { from = tt; rise = tt }
+take-rises mins H i (suc n) k q =
+    take-cases mins H (λ _ t. Rises i t) i (upFrom (suc i) n) k q (rises-later i _ (take-rises mins H (suc i) n k q)) (record { from = tt; rise = tt })
     (λ j e h f l.
-    let r = take-rises es H (suc i) n j (withoutFirst q i) in
+    let r = take-rises mins H (suc i) n j (withoutFirst q i) in
     let d : e .destination ≡ i = first-destination q i e f in
     record {
       from = (omega arith, rises-later i _ r .from);
-      rise = (all-map (λ (x : Event). suc i ≤ x .destination) (Ascend e) (λ x y. omega arith) (takeEligible es H (upFrom (suc i) n) j (withoutFirst q i) .events) (r .from), r .rise);
+      rise = (all-map (λ (x : Event). suc i ≤ x .destination) (Ascend e) (λ x y. omega arith) (takeEligible mins H (upFrom (suc i) n) j (withoutFirst q i) .events) (r .from), r .rise);
     })
 
 pub upFrom-length : (i n : ℕ) → length (upFrom i n) ≡ n

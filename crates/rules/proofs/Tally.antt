@@ -7,7 +7,7 @@ use native.Mathlib.Omega.{arith}
 use lib.Dec.{ltb, eqb}
 use lib.ListN.{length}
 use Rattle.rules.specs.Base.{if_then_else_, Maybe, none, some, upTo}
-use Rattle.rules.specs.State.{Event, Message, Edge, State, Counters, numbered, maxCount}
+use Rattle.rules.specs.State.{Event, Message, State, Counters, numbered, maxCount}
 use Rattle.rules.specs.Answers.{Answer}
 use Rattle.rules.specs.Rows.{Out, out}
 use Rattle.rules.specs.Pending.{insert, firstOf, withoutFirst, queue}
@@ -59,23 +59,23 @@ eligible-first k (some f) e h = go (ltb (f .tick) k) h
 Split : List Event → BatchTaken → Type 0
 Split q t = length (t .left) + length (t .events) ≡ length q
 
-take-splits : (es : List Edge) (H : ℕ) (ps : List ℕ) (room : ℕ) (q : List Event) → Split q (takeEligible es H ps room q)
+take-splits : (mins : List ℕ) (H : ℕ) (ps : List ℕ) (room : ℕ) (q : List Event) → Split q (takeEligible mins H ps room q)
 unfolding takeEligible Split takeEligibleAt eligible
-take-splits es H [] room q = omega arith
-take-splits es H (p ∷ ps) room q = go (below (safe es H p) (firstOf q p)) refl (take-splits es H ps) room
+take-splits mins H [] room q = omega arith
+take-splits mins H (p ∷ ps) room q = go (below (safe mins H p) (firstOf q p)) refl (take-splits mins H ps) room
   where
-    go : (m : Maybe Event) → below (safe es H p) (firstOf q p) ≡ m → ((k : ℕ) (r : List Event) → Split r (takeEligible es H ps k r)) → (k : ℕ) → Split q (takeEligibleAt m p q k (takeEligible es H ps))
+    go : (m : Maybe Event) → below (safe mins H p) (firstOf q p) ≡ m → ((k : ℕ) (r : List Event) → Split r (takeEligible mins H ps k r)) → (k : ℕ) → Split q (takeEligibleAt m p q k (takeEligible mins H ps))
     go none h ih k = ih k q
     go (some e) h ih zero = omega arith
     go (some e) h ih (suc k) = omega (arith, ih k (withoutFirst q p), length-without q p e (eligible-first _ _ e h))
 
-pub take-shorter : (es : List Edge) (H : ℕ) (ps : List ℕ) (room : ℕ) (q : List Event) → length (takeEligible es H ps room q .left) ≤ length q
+pub take-shorter : (mins : List ℕ) (H : ℕ) (ps : List ℕ) (room : ℕ) (q : List Event) → length (takeEligible mins H ps room q .left) ≤ length q
 unfolding Split
-take-shorter es H ps room q = omega (arith, take-splits es H ps room q)
+take-shorter mins H ps room q = omega (arith, take-splits mins H ps room q)
 
 pub taken-splits : (s : State) (h b : ℕ) → length (takenAt s h b .left) + length (takenAt s h b .events) ≡ length (s .pending)
 unfolding Split
-taken-splits s h b = take-splits (s .edges) (suc h) (upTo (s .n)) (b - s .used) (s .pending)
+taken-splits s h b = take-splits (s .inbound) (suc h) (upTo (s .n)) (b - s .used) (s .pending)
 
 -- The invariant
 

@@ -155,7 +155,7 @@ back-spends y mask xs h b k i =
     (record { empty = refl; healthy = k .reply .healthy; before = k .reply .healthy; pending = omega (arith, length-queue (y .now .pending) (y .now .next) (messages xs), length-messages xs); used = refl }) i
 
 back-commits : (y : History) (mask : ℕ) (xs : List Emission) (h b : ℕ) → Commits (y .now) mask xs h b → Tallied y
-    → let t = refreshed (handled (y .now) xs) h (y .now .edges) (y .now .edges) (y .now .horizons) in Tells y (HandBack mask xs) (out (Committed (t .gvt)) t (countRound (y .counters) (y .now .batch) xs))
+    → let t = refreshed (handled (y .now) xs) h (y .now .edges) (y .now .inbound) (y .now .horizons) in Tells y (HandBack mask xs) (out (Committed (t .gvt)) t (countRound (y .counters) (y .now .batch) xs))
 unfolding isHandBack refused isCommitted isAdvanced isBatch number refreshed
 back-commits y mask xs h b k i =
     back-done y mask xs (Committed _) _ refl refl (hand-gone (entryOf (HandBack mask xs) (Committed _) _) (y .entries) refl refl refl)

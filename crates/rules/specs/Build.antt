@@ -9,6 +9,7 @@ use Rattle.rules.specs.State.{Edge, Counters, State, unset, zeros, maxPr
 use Rattle.rules.specs.Answers
 use Rattle.rules.specs.Answers.{Answer, Accepted, Refused}
 use Rattle.rules.specs.Rows.{Row, _⇒_, unless}
+use Rattle.rules.specs.Frontiers.{inboundOf}
 
 -- "Build takes n, L, process ids, rows (source, how many destinations) and one list from which the rows take their destinations in turn."
 -- Rows come as two lists, their sources and their counts.
@@ -82,9 +83,11 @@ edgesOf L (p ∷ sources) (k ∷ counts) ds =
     map (λ d. record { source = p; destination = d; bound = L }) (take k ds) ++ edgesOf L sources counts (drop k ds)
 
 -- "Once built, nothing is pending, initial events are open, no horizon is stored, no run is open, and GVT, next sequence and every counter are 0";
--- "local horizon h(p), at first 0".
+-- "local horizon h(p), at first 0". A.2's record is that of its edges.
 unfoldable pub built : Setup → State
-built a = record { n = a .n; lookahead = a .lookahead; edges = edgesOf (a .lookahead) (a .sources) (a .counts) (a .destinations); pending = []; next = 0; horizons = map (λ p. 0) (upTo (a .n)); gvt = 0; stored = unset; used = 0; batch = []; initial = true; running = false; poisoned = false }
+built a =
+    let es = edgesOf (a .lookahead) (a .sources) (a .counts) (a .destinations) in
+    record { n = a .n; lookahead = a .lookahead; edges = es; pending = []; next = 0; horizons = map (λ p. 0) (upTo (a .n)); inbound = inboundOf (a .n) es; gvt = 0; stored = unset; used = 0; batch = []; initial = true; running = false; poisoned = false }
 
 -- "nothing made"; "a refused build leaves the lent counters untouched".
 pub record BuildOut : Type 0 where

@@ -1,12 +1,13 @@
--- 11: "A foreign state has ..". One clause for each part of document 01's sentence, in its order.
+-- 11: "A foreign state has ..". One clause for each part of document 01's sentence, in its order, and one for A.2's.
 use mathlib.Core.Bool.{Bool, true, false, not, _&&_, _||_}
 use mathlib.Core.List.{List, [], _∷_}
 use Prim.Native.Nat.{ℕ}
 use lib.Dec.{leb, ltb, eqb}
 use lib.ListN.{length}
-use Rattle.rules.specs.Base.{any, anyOf, nonEmpty, rising}
+use Rattle.rules.specs.Base.{upTo, any, anyOf, nonEmpty, rising}
 use Rattle.rules.specs.State.{Event, Edge, Stored, unset, stored, State, maxTick, maxProcesses, maxEdges, maxPending, maxPayload}
 use Rattle.rules.specs.Pending.{joins, before}
+use Rattle.rules.specs.Frontiers.{leastInbound, recorded}
 
 -- "a count or length over its limit". 01 gives a batch no limit of its own: at most one event of each process, so 64.
 abbrev pub longPayload : Event → Bool
@@ -39,6 +40,10 @@ unfoldable pub isUnset : Stored → Bool
 isUnset unset = true
 isUnset (stored h b) = false
 
+-- A.2: "A state where it is wrong is foreign": of some process the record has another tick than its least inbound bound, or than the largest tick, where no edge leads to it.
+unfoldable pub wrongRecord : State → Bool
+wrongRecord s = any (λ p. not (eqb (recorded (s .inbound) p) (leastInbound (s .edges) p))) (upTo (s .n))
+
 abbrev pub byProcess : Event → Event → Bool
 byProcess e f = ltb (e .destination) (f .destination)
 
@@ -62,8 +67,10 @@ clauses s =
     ∷ (nonEmpty (s .batch) && not (s .running))
     -- "or a batch not strictly rising by process"
     ∷ not (rising byProcess (s .batch))
-    -- A state has one local horizon for each process. The program's has them by its layout, so document 01 needs no words for it.
+    ∷ wrongRecord s
+    -- A state has one local horizon for each process, and one tick of the record. The program's has them by its layout, so the documents need no words for it.
     ∷ not (eqb (length (s .horizons)) (s .n))
+    ∷ not (eqb (length (s .inbound)) (s .n))
     ∷ []
 
 unfoldable pub foreign : State → Bool

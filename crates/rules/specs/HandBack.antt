@@ -106,7 +106,7 @@ handled s xs = withHandled s (queue (s .pending) (s .next) (messages xs)) (s .ne
 unfoldable pub commit : State → Counters → ℕ → ℕ → List Emission → Out
 commit s c horizon budget xs =
     let t = handled s xs in
-    let u = refreshed t horizon (t .edges) (t .edges) (t .horizons) in
+    let u = refreshed t horizon (t .edges) (t .inbound) (t .horizons) in
     if spent t horizon budget then out (Refused (Answers.EventBudgetExceeded budget)) (closed t) (countRound c (s .batch) xs)
     else out (Committed (u .gvt)) u (countRound c (s .batch) xs)
 

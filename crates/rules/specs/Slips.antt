@@ -1,20 +1,20 @@
--- A dozen computed cases beside C1 to C10, for what these do not notice of document 01's slips: in what a refusal leaves, in the order of two causes, in what is counted.
+-- Computed cases beside C1 to C10, for what these do not notice of slips in document 01 (in what a refusal leaves, in the order of two causes, in what is counted) and in A.2 of document 02 (in the record of least inbound bounds).
 -- An input for each refusal 1 to 36, and for each limit, is run by programs, against the Rust where it has an answer (docs/WHERE.md).
 use mathlib.Core.Path.{_≡_}
 use mathlib.Core.Bool.{true, false}
 use mathlib.Core.List.{List, [], _∷_, _++_}
 use Prim.Native.Nat.{ℕ, _-_, _^_}
-use Rattle.rules.specs.State.{Event, unset, stored, State, Counters, zeros, withHandled, withBounds, closed, poison, maxCount}
+use Rattle.rules.specs.State.{Event, unset, stored, State, Counters, zeros, withHandled, withBounds, closed, poison, maxTick, maxCount}
 use Rattle.rules.specs.Answers
 use Rattle.rules.specs.Answers.{Entity, Accepted, Batch, Advanced, Committed, Refused, number, values}
 use Rattle.rules.specs.Rows.{Out, out}
-use Rattle.rules.specs.Build.{built}
+use Rattle.rules.specs.Build.{Setup, built}
 use Rattle.rules.specs.Initial.{addInitial}
 use Rattle.rules.specs.Step.{step}
 use Rattle.rules.specs.HandBack.{Emission, handBack}
 use Rattle.rules.specs.Plan.{plan}
 use Rattle.rules.specs.Calls.{Call, AddInitial, Begin, Step, HandBack, rule}
-use Rattle.rules.specs.Rehearsals.{pair, answers, nullMessagesCounted, budget, message, event, emits, initial-at, at-two, handing-back}
+use Rattle.rules.specs.Rehearsals.{pair, one-way, answers, nullMessagesCounted, budget, message, event, emits, initial-at, at-two, handing-back}
 
 -- Number and values of an answer, and what is left.
 pub record Outcome : Type 0 where
@@ -40,7 +40,7 @@ after ks = stateAfter (built pair) zeros ks
 
 -- In a run on the edges 0→1 and 1→0, with q pending, the next sequence number k, the budget u and the batch b in hand. Written out, since computing with states that are themselves computed takes too long; `Reached` says that calls lead to them.
 abbrev pub in-run : List Event → ℕ → ℕ → List Event → State
-in-run q k u b = record { n = 2; lookahead = 3; edges = record { source = 0; destination = 1; bound = 3 } ∷ record { source = 1; destination = 0; bound = 3 } ∷ []; pending = q; next = k; horizons = 0 ∷ 0 ∷ []; gvt = 0; stored = stored 9 u; used = 0; batch = b; initial = false; running = true; poisoned = false }
+in-run q k u b = record { n = 2; lookahead = 3; edges = record { source = 0; destination = 1; bound = 3 } ∷ record { source = 1; destination = 0; bound = 3 } ∷ []; pending = q; next = k; horizons = 0 ∷ 0 ∷ []; inbound = 3 ∷ 3 ∷ []; gvt = 0; stored = stored 9 u; used = 0; batch = b; initial = false; running = true; poisoned = false }
 
 -- C3's batch in hand, process 1's event at 2; and that batch lost to a bad emission.
 abbrev pub in-hand : State
@@ -70,13 +70,21 @@ pub record Reached : Type 0 where
 
 -- By hand, since no calls lead there: the local horizons are 9; no sequence number is left; L is 0, and it is poisoned.
 abbrev pub horizons-at-nine : State
-horizons-at-nine = withBounds in-hand (in-hand .edges) (9 ∷ 9 ∷ []) 0
+horizons-at-nine = withBounds in-hand (in-hand .edges) (in-hand .inbound) (9 ∷ 9 ∷ []) 0
 
 abbrev pub sequence-exhausted : State
-sequence-exhausted = record { n = 2; lookahead = 3; edges = in-hand .edges; pending = []; next = 2 ^ 64 - 1; horizons = 0 ∷ 0 ∷ []; gvt = 0; stored = unset; used = 0; batch = []; initial = true; running = false; poisoned = false }
+sequence-exhausted = record { n = 2; lookahead = 3; edges = in-hand .edges; pending = []; next = 2 ^ 64 - 1; horizons = 0 ∷ 0 ∷ []; inbound = 3 ∷ 3 ∷ []; gvt = 0; stored = unset; used = 0; batch = []; initial = true; running = false; poisoned = false }
 
 abbrev pub no-lookahead : State
-no-lookahead = record { n = 2; lookahead = 0; edges = []; pending = []; next = 0; horizons = 0 ∷ 0 ∷ []; gvt = 0; stored = unset; used = 0; batch = []; initial = true; running = false; poisoned = true }
+no-lookahead = record { n = 2; lookahead = 0; edges = []; pending = []; next = 0; horizons = 0 ∷ 0 ∷ []; inbound = maxTick ∷ maxTick ∷ []; gvt = 0; stored = unset; used = 0; batch = []; initial = true; running = false; poisoned = true }
+
+-- That batch in hand again, with A.2's record wrong of the second process.
+abbrev pub wrong-second : State
+wrong-second = withBounds in-hand (in-hand .edges) (3 ∷ 4 ∷ []) (in-hand .horizons) 0
+
+-- Edges 0→2, 1→2 and 2→0.
+unfoldable pub two-into-one : Setup
+two-into-one = record { n = 3; lookahead = 3; ids = 0 ∷ 1 ∷ 2 ∷ []; sources = 0 ∷ 1 ∷ 2 ∷ []; counts = 1 ∷ 1 ∷ 1 ∷ []; destinations = 2 ∷ 2 ∷ 0 ∷ [] }
 
 -- The process p emits, but names a as the source.
 abbrev pub wrong-source : ℕ → ℕ → ℕ → ℕ → Emission
@@ -127,5 +135,12 @@ pub record SlipsNoticed : Type 0 where
   pub bounds-alone-counted : nullMessagesCounted pair one-step-more ≡ (0 ∷ 0 ∷ 0 ∷ 0 ∷ 2 ∷ [])
   -- "Counters .. stop at 2^64 - 1."
   pub counters-stop : handBack in-hand full-counters 0 (emits 1 0 5 ∷ []) .counters ≡ full-counters
+  -- A.2: "A state where it is wrong is foreign (11)", whichever process it is wrong of.
+  pub wrong-record : AnswersWith (λ c. handBack wrong-second c 0 []) 11 [] wrong-second
+  -- "the largest tick for a process without inbound edges", from build on. The first advance raises the bounds of 0→2, 1→2 and 2→0 to 6, 10 and 6: the least into 2 is 6.
+  pub record-built : built one-way .inbound ≡ (maxTick ∷ 3 ∷ [])
+  pub record-advanced : stateAfter (built two-into-one) zeros (Begin 9 budget ∷ Step ∷ []) .inbound ≡ (6 ∷ maxTick ∷ 6 ∷ [])
+  -- "a frontier is read as the lesser of it and H": process 0 has no inbound edge, and an event behind the horizon waits.
+  pub behind-horizon : answers one-way (AddInitial (message 0 0 10) ∷ Begin 9 budget ∷ Step ∷ []) ≡ (Accepted ∷ Accepted ∷ Advanced 2 ∷ [])
   -- Plan: 36 before 35, and the lent list as it was.
   pub short-list-first : plan 2 3 (entity 1 ∷ entity 1 ∷ []) (entity 9 ∷ []) ≡ record { answer = Refused Answers.TooManyEntities; list = entity 9 ∷ [] }

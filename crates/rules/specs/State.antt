@@ -74,6 +74,7 @@ pub data Stored : Type 0 where
 
 -- "processes and edges, pending events with their sequence numbers, the next sequence number, edge bounds, local horizons, GVT, the stored horizon
 -- and budget if any, the batch in hand, and whether initial events are open, a run is open and the runtime is poisoned"; and this run's used count.
+-- `inbound` is A.2's record: "Keep each process's least inbound bound in the state".
 pub record State : Type 0 where
   pub n : ℕ
   pub lookahead : ℕ
@@ -81,6 +82,7 @@ pub record State : Type 0 where
   pub pending : List Event
   pub next : ℕ
   pub horizons : List ℕ
+  pub inbound : List ℕ
   pub gvt : ℕ
   pub stored : Stored
   pub used : ℕ
@@ -93,28 +95,28 @@ pub record State : Type 0 where
 
 -- q is pending, and k is the next sequence number.
 abbrev pub withPending : State → List Event → ℕ → State
-withPending s q k = record { n = s .n; lookahead = s .lookahead; edges = s .edges; pending = q; next = k; horizons = s .horizons; gvt = s .gvt; stored = s .stored; used = s .used; batch = s .batch; initial = s .initial; running = s .running; poisoned = s .poisoned }
+withPending s q k = record { n = s .n; lookahead = s .lookahead; edges = s .edges; pending = q; next = k; horizons = s .horizons; inbound = s .inbound; gvt = s .gvt; stored = s .stored; used = s .used; batch = s .batch; initial = s .initial; running = s .running; poisoned = s .poisoned }
 
 -- "Begin stores horizon and budget, closes initial events, sets this run's used count to 0 and opens the run."
 abbrev pub withRun : State → ℕ → ℕ → State
-withRun s h b = record { n = s .n; lookahead = s .lookahead; edges = s .edges; pending = s .pending; next = s .next; horizons = s .horizons; gvt = s .gvt; stored = stored h b; used = 0; batch = s .batch; initial = false; running = true; poisoned = s .poisoned }
+withRun s h b = record { n = s .n; lookahead = s .lookahead; edges = s .edges; pending = s .pending; next = s .next; horizons = s .horizons; inbound = s .inbound; gvt = s .gvt; stored = stored h b; used = 0; batch = s .batch; initial = false; running = true; poisoned = s .poisoned }
 
 -- The run is closed.
 abbrev pub closed : State → State
-closed s = record { n = s .n; lookahead = s .lookahead; edges = s .edges; pending = s .pending; next = s .next; horizons = s .horizons; gvt = s .gvt; stored = s .stored; used = s .used; batch = s .batch; initial = s .initial; running = false; poisoned = s .poisoned }
+closed s = record { n = s .n; lookahead = s .lookahead; edges = s .edges; pending = s .pending; next = s .next; horizons = s .horizons; inbound = s .inbound; gvt = s .gvt; stored = s .stored; used = s .used; batch = s .batch; initial = s .initial; running = false; poisoned = s .poisoned }
 
 -- The batch b is in hand, and q is left pending.
 abbrev pub withBatch : State → List Event → List Event → State
-withBatch s b q = record { n = s .n; lookahead = s .lookahead; edges = s .edges; pending = q; next = s .next; horizons = s .horizons; gvt = s .gvt; stored = s .stored; used = s .used; batch = b; initial = s .initial; running = s .running; poisoned = s .poisoned }
+withBatch s b q = record { n = s .n; lookahead = s .lookahead; edges = s .edges; pending = q; next = s .next; horizons = s .horizons; inbound = s .inbound; gvt = s .gvt; stored = s .stored; used = s .used; batch = b; initial = s .initial; running = s .running; poisoned = s .poisoned }
 
 -- The batch was handled: q is pending, k is the next sequence number, u is used.
 abbrev pub withHandled : State → List Event → ℕ → ℕ → State
-withHandled s q k u = record { n = s .n; lookahead = s .lookahead; edges = s .edges; pending = q; next = k; horizons = s .horizons; gvt = s .gvt; stored = s .stored; used = u; batch = []; initial = s .initial; running = s .running; poisoned = s .poisoned }
+withHandled s q k u = record { n = s .n; lookahead = s .lookahead; edges = s .edges; pending = q; next = k; horizons = s .horizons; inbound = s .inbound; gvt = s .gvt; stored = s .stored; used = u; batch = []; initial = s .initial; running = s .running; poisoned = s .poisoned }
 
--- The edges es, the local horizons hs and GVT g.
-abbrev pub withBounds : State → List Edge → List ℕ → ℕ → State
-withBounds s es hs g = record { n = s .n; lookahead = s .lookahead; edges = es; pending = s .pending; next = s .next; horizons = hs; gvt = g; stored = s .stored; used = s .used; batch = s .batch; initial = s .initial; running = s .running; poisoned = s .poisoned }
+-- The edges es, with the record m of their least inbound bounds, the local horizons hs and GVT g.
+abbrev pub withBounds : State → List Edge → List ℕ → List ℕ → ℕ → State
+withBounds s es m hs g = record { n = s .n; lookahead = s .lookahead; edges = es; pending = s .pending; next = s .next; horizons = hs; inbound = m; gvt = g; stored = s .stored; used = s .used; batch = s .batch; initial = s .initial; running = s .running; poisoned = s .poisoned }
 
 -- "'Poisoned' in the last column: the batch is lost, poisoned is set, all else stands."
 abbrev pub poison : State → State
-poison s = record { n = s .n; lookahead = s .lookahead; edges = s .edges; pending = s .pending; next = s .next; horizons = s .horizons; gvt = s .gvt; stored = s .stored; used = s .used; batch = []; initial = s .initial; running = s .running; poisoned = true }
+poison s = record { n = s .n; lookahead = s .lookahead; edges = s .edges; pending = s .pending; next = s .next; horizons = s .horizons; inbound = s .inbound; gvt = s .gvt; stored = s .stored; used = s .used; batch = []; initial = s .initial; running = s .running; poisoned = true }

@@ -9,7 +9,7 @@ use Rattle.rules.specs.Answers
 use Rattle.rules.specs.Answers.{Batch, Advanced, Finished, Refused}
 use Rattle.rules.specs.Rows.{Row, _⇒_, unless, Out, out, refuse}
 use Rattle.rules.specs.Pending.{firstTick, withoutFirst}
-use Rattle.rules.specs.Frontiers.{safe, eligible, anyEligible}
+use Rattle.rules.specs.Frontiers.{inboundOf, safe, eligible, anyEligible}
 use Rattle.rules.specs.Foreign.{foreign}
 use Rattle.rules.specs.Refresh.{raised, refreshed}
 
@@ -25,13 +25,13 @@ takeEligibleAt (some e) p q (suc room) rest =
     let r = rest room (withoutFirst q p) in
     record { events = e ∷ r .events; left = r .left }
 
-unfoldable pub takeEligible : List Edge → ℕ → List ℕ → ℕ → List Event → BatchTaken
-takeEligible es H [] room q = record { events = []; left = q }
-takeEligible es H (p ∷ ps) room q = takeEligibleAt (eligible es H q p) p q room (takeEligible es H ps)
+unfoldable pub takeEligible : List ℕ → ℕ → List ℕ → ℕ → List Event → BatchTaken
+takeEligible m H [] room q = record { events = []; left = q }
+takeEligible m H (p ∷ ps) room q = takeEligibleAt (eligible m H q p) p q room (takeEligible m H ps)
 
 -- "local horizon h(p) .. rises to min(safe(p), first pending tick or H)"
 unfoldable pub inputFrontier : State → ℕ → ℕ → ℕ
-inputFrontier s H p = min (safe (s .edges) H p) (firstTick (s .pending) p H)
+inputFrontier s H p = min (safe (s .inbound) H p) (firstTick (s .pending) p H)
 
 -- "each edge bound from s rises to min(H, min(safe(s), first pending tick or H) + L), or to H on overflow."
 unfoldable pub newBound : State → ℕ → ℕ → ℕ
@@ -66,9 +66,9 @@ nullMessagesOf s H = countRaised (s .edges) (newEdges s H)
 unfoldable pub anyAdvanced : State → ℕ → Bool
 anyAdvanced s H = ltb 0 (nullMessagesOf s H) || anyRaised (s .horizons) (newHorizons s H)
 
--- "Then refresh GVT."
+-- "Then refresh GVT." The record after it is that of the raised edges (A.2).
 abbrev pub advanced : State → ℕ → State
-advanced s horizon = refreshed s horizon (s .edges) (newEdges s (suc horizon)) (newHorizons s (suc horizon))
+advanced s horizon = refreshed s horizon (newEdges s (suc horizon)) (inboundOf (s .n) (newEdges s (suc horizon))) (newHorizons s (suc horizon))
 
 -- "If anything rose, rounds + 1."
 abbrev pub countAdvance : Counters → ℕ → Counters
@@ -87,11 +87,11 @@ advance s c horizon =
     else out (Refused Answers.Poisoned) (poison t) c
 
 abbrev pub takenAt : State → ℕ → ℕ → BatchTaken
-takenAt s horizon budget = takeEligible (s .edges) (suc horizon) (upTo (s .n)) (budget - s .used) (s .pending)
+takenAt s horizon budget = takeEligible (s .inbound) (suc horizon) (upTo (s .n)) (budget - s .used) (s .pending)
 
 -- "used >= budget and an event is eligible"
 abbrev pub spent : State → ℕ → ℕ → Bool
-spent s horizon budget = leb budget (s .used) && anyEligible (s .edges) (suc horizon) (s .pending) (upTo (s .n))
+spent s horizon budget = leb budget (s .used) && anyEligible (s .inbound) (suc horizon) (s .pending) (upTo (s .n))
 
 -- "If any was taken, answer the batch. Else if used >= budget and an event is eligible, 24. Else advance". 24 leaves "run closed, otherwise as reached".
 unfoldable pub stepRun : State → Counters → ℕ → ℕ → Out

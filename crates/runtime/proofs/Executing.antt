@@ -56,43 +56,43 @@ pub carries-foreign : (s : Runtime) (c : Counters) → foreign (viewOf s) ≡ tr
 carries-foreign s c f k = executes k s c P.ForeignState s c (sym (row-11 (viewOf s) (countersOf c) k f)) (λ _. (refl, refl))
 
 abbrev packed : List ℕ → List ℕ → List ℕ → List ℕ → Header → Runtime
-packed E Q Z B h = record { edges = E; pending = Q; horizons = Z; batch = B; head = h }
+packed E Q Z B h = record { edges = E; pending = Q; processes = Z; batch = B; head = h }
 
 -- Where 11 lets the state pass.
 module _ (s : Runtime) (passes : foreign (viewOf s) ≡ false) where
   pub can-look : length (s .edges) ≡ 2048 → 4 * s .head .edges ≤ length (s .edges)
-  can-look l = omega (arith, few-edges (s .head) (s .edges) (s .pending) (s .horizons) (s .batch) passes)
+  can-look l = omega (arith, few-edges (s .head) (s .edges) (s .pending) (s .processes) (s .batch) passes)
 
   pub can-queue : length (s .pending) ≡ 4096 → CanEnqueue (s .head) (s .pending)
-  can-queue l = record { pending-words = l; order = in-order (s .head) (s .edges) (s .pending) (s .horizons) (s .batch) passes; newest = newest (s .head) (s .edges) (s .pending) (s .horizons) (s .batch) passes }
+  can-queue l = record { pending-words = l; order = in-order (s .head) (s .edges) (s .pending) (s .processes) (s .batch) passes; newest = newest (s .head) (s .edges) (s .pending) (s .processes) (s .batch) passes }
 
-  pub can-lend : length (s .edges) ≡ 2048 → length (s .pending) ≡ 4096 → length (s .horizons) ≡ 128 → length (s .batch) ≡ 512 → ValidArrays (s .head) (s .edges) (s .pending) (s .horizons) (s .batch)
-  can-lend k l m n = record { edge-words = k; pending-words = l; horizon-words = m; batch-words = n; passes = passes }
+  pub can-lend : length (s .edges) ≡ 2048 → length (s .pending) ≡ 4096 → length (s .processes) ≡ 256 → length (s .batch) ≡ 512 → ValidArrays (s .head) (s .edges) (s .pending) (s .processes) (s .batch)
+  can-lend k l m n = record { edge-words = k; pending-words = l; process-words = m; batch-words = n; passes = passes }
 
   module _ (c : Counters) where
-    pub carries-begin : (t : SimTime) (b : ℕ) (r : HeaderResult) → Begins (s .head) t b r → Executes (Begin (ticksOf t) b) s c (r .answer) (packed (s .edges) (s .pending) (s .horizons) (s .batch) (r .head)) c
+    pub carries-begin : (t : SimTime) (b : ℕ) (r : HeaderResult) → Begins (s .head) t b r → Executes (Begin (ticksOf t) b) s c (r .answer) (packed (s .edges) (s .pending) (s .processes) (s .batch) (r .head)) c
     unfolding rule asGiven
     carries-begin t b r g =
         executes _ _ _ _ _ _
-        (g .gives (s .edges) (s .pending) (s .horizons) (s .batch) (countersOf c) passes)
-        (λ k. ((λ j. packed (s .edges) (s .pending) (s .horizons) (s .batch) (g .kept _ k j)), refl))
+        (g .gives (s .edges) (s .pending) (s .processes) (s .batch) (countersOf c) passes)
+        (λ k. ((λ j. packed (s .edges) (s .pending) (s .processes) (s .batch) (g .kept _ k j)), refl))
 
-    pub carries-initial : (m : Message) (r : HeaderResult) (Q : List ℕ) → AddsInitial (s .head) (s .edges) (s .pending) m r Q → Executes (AddInitial (messageOf m)) s c (r .answer) (packed (s .edges) Q (s .horizons) (s .batch) (r .head)) c
+    pub carries-initial : (m : Message) (r : HeaderResult) (Q : List ℕ) → AddsInitial (s .head) (s .edges) (s .pending) m r Q → Executes (AddInitial (messageOf m)) s c (r .answer) (packed (s .edges) Q (s .processes) (s .batch) (r .head)) c
     unfolding rule asGiven
     carries-initial m r Q g =
         executes _ _ _ _ _ _
-        (g .gives (s .horizons) (s .batch) (countersOf c) passes)
-        (λ k. ((λ j. packed (s .edges) (g .kept _ k .1 j) (s .horizons) (s .batch) (g .kept _ k .0 j)), refl))
+        (g .gives (s .processes) (s .batch) (countersOf c) passes)
+        (λ k. ((λ j. packed (s .edges) (g .kept _ k .1 j) (s .processes) (s .batch) (g .kept _ k .0 j)), refl))
 
 -- Of a call whose core is lent all four arrays.
 module _ (s : Runtime) (c : Counters) (r : CoreResult) (Q Z B : List ℕ) where
-  unchanged : (E : List ℕ) → SameAsGiven (s .head) c (s .edges) (s .pending) (s .horizons) (s .batch) r E Q Z B → (packed E Q Z B (r .head) ≡ s) × (r .counters ≡ c)
-  unchanged E m = ((λ j. packed (m .same-edges j) (m .same-pending j) (m .same-horizons j) (m .same-batch j) (m .same-head j)), m .same-counters)
+  unchanged : (E : List ℕ) → SameAsGiven (s .head) c (s .edges) (s .pending) (s .processes) (s .batch) r E Q Z B → (packed E Q Z B (r .head) ≡ s) × (r .counters ≡ c)
+  unchanged E m = ((λ j. packed (m .same-edges j) (m .same-pending j) (m .same-processes j) (m .same-batch j) (m .same-head j)), m .same-counters)
 
-  pub carries-step : (E : List ℕ) → Steps (s .head) c (s .edges) (s .pending) (s .horizons) (s .batch) r E Q Z B → Executes Step s c (r .answer) (packed E Q Z B (r .head)) (r .counters)
+  pub carries-step : (E : List ℕ) → Steps (s .head) c (s .edges) (s .pending) (s .processes) (s .batch) r E Q Z B → Executes Step s c (r .answer) (packed E Q Z B (r .head)) (r .counters)
   unfolding rule asGiven
   carries-step E g = executes _ _ _ _ _ _ (g .gives) (λ k. unchanged E (g .kept _ k))
 
-  pub carries-back : (mask : ℕ) (xs : List Emission) → HandsBack (s .head) c (s .edges) (s .pending) (s .horizons) (s .batch) mask xs r Q Z B → Executes (HandBack mask xs) s c (r .answer) (packed (s .edges) Q Z B (r .head)) (r .counters)
+  pub carries-back : (mask : ℕ) (xs : List Emission) → HandsBack (s .head) c (s .edges) (s .pending) (s .processes) (s .batch) mask xs r Q Z B → Executes (HandBack mask xs) s c (r .answer) (packed (s .edges) Q Z B (r .head)) (r .counters)
   unfolding rule asGiven
   carries-back mask xs g = executes _ _ _ _ _ _ (g .gives) (λ k. unchanged (s .edges) (g .kept _ k))

@@ -7,7 +7,6 @@ use denote.Enum.Declared.{tagOf}
 use Rattle.words.specs.Words.{zeroes}
 use Rattle.rules.specs.Answers.{Accepted}
 use Rattle.rules.specs.Build.{Setup, setup, build}
-use Rattle.build_edges.specs.Written.{Writable}
 use Rattle.state.specs.declared.Header.{Header}
 use Rattle.state.specs.declared.Runtime.{Runtime}
 use Rattle.state.specs.declared.Counters.{Counters}
@@ -15,22 +14,22 @@ use Rattle.state.specs.View.{countersOf}
 use Rattle.build.specs.declared.BuildAnswer.{BuildAnswer}
 use Rattle.build.specs.declared.BuildAnswer.the-variants as P
 use Rattle.build.specs.Checks.{answerOf, ChecksBuild}
-use Rattle.build.specs.Initialized.{Initializes, emptyHeader, emptyRuntime}
+use Rattle.build.specs.Initialized.{CanInitialize, Initializes, emptyHeader, emptyRuntime}
 use Rattle.build.proofs.BuildAnswer.{the-type}
 use Rattle.build.proofs.AnswerRows.{never, counters-accepted, counters-refused}
-use Rattle.build.proofs.Initializing.{writable}
+use Rattle.build.proofs.Initializing.{can-initialize}
 use Rattle.build.proofs.Numbering.{refusals, refusing, numbered, valued}
 use Rattle.runtime.specs.Builds.{Makes, Builds}
 
--- A header and edges, the other words zeros.
-abbrev zeroed : List ℕ → Header → Runtime
-zeroed edges h = record { edges = edges; pending = zeroes 4096; horizons = zeroes 128; batch = zeroes 512; head = h }
+-- A header, edges and processes, the other words zeros.
+abbrev zeroed : List ℕ → List ℕ → Header → Runtime
+zeroed edges processes h = record { edges = edges; pending = zeroes 4096; processes = processes; batch = zeroes 512; head = h }
 
-pub empty : (h : Header) → h ≡ emptyHeader → zeroed (zeroes 2048) h ≡ emptyRuntime
-empty h e = ap (zeroed (zeroes 2048)) e
+pub empty : (h : Header) → h ≡ emptyHeader → zeroed (zeroes 2048) (zeroes 256) h ≡ emptyRuntime
+empty h e = ap (zeroed (zeroes 2048) (zeroes 256)) e
 
-pub made : (n L : ℕ) (sources counts ds w u : List ℕ) (h : Header) → Initializes n L sources counts ds w u h → Makes n L sources counts ds (zeroed u h)
-made n L sources counts ds w u h l = record { of-ids = λ ids. l .state ids (zeroes 4096) (zeroes 512) 128 }
+pub made : (n L : ℕ) (sources counts ds w u z : List ℕ) (h : Header) → Initializes n L sources counts ds w u z h → Makes n L sources counts ds (zeroed u z h)
+made n L sources counts ds w u z h l = record { of-ids = λ ids. l .state ids (zeroes 4096) (zeroes 512) }
 
 module _ (n L : ℕ) (ids sources counts ds : List ℕ) (c : Counters) (r : BuildAnswer) (j : ChecksBuild n L ids sources counts ds r) where
   abbrev a : Setup
@@ -43,8 +42,8 @@ module _ (n L : ℕ) (ids sources counts ds : List ℕ) (c : Counters) (r : Buil
     accepts : build a (countersOf c) .answer ≡ Accepted
     accepts = sym answer-is ∙ ap answerOf e
 
-    pub can-write : Writable sources counts ds (zeroes 2048)
-    can-write = writable n L ids sources counts ds (countersOf c) (zeroes 2048) accepts refl
+    pub can-make : CanInitialize n L sources counts ds (zeroes 2048) (zeroes 256)
+    can-make = can-initialize n L ids sources counts ds (countersOf c) (zeroes 2048) accepts refl
 
     pub accepted : (s : Runtime) → Makes n L sources counts ds s → Builds a c (record { answer = r; state = s; counters = record { «processed_events» = 0; «emitted_events» = 0; «remote_events» = 0; rounds = 0; «null_messages» = 0; «worker_count» = 0 } })
     accepted s m = record {

@@ -19,8 +19,7 @@ ghost use Rattle.rules.specs.Build.{setup};
 ghost use Rattle.rules.specs.Calls.{Call, AddInitial, Begin, Step, HandBack};
 ghost use Rattle.reply_words.specs.Emissions.{emissionsOf};
 ghost use Rattle.state.specs.View.{viewOf, messageOf};
-ghost use Rattle.build.specs.Initialized.{emptyRuntime};
-ghost use Rattle.build_edges.specs.Written.{Writable};
+ghost use Rattle.build.specs.Initialized.{CanInitialize, emptyRuntime};
 ghost use Rattle.runtime.specs.Builds.{Makes, Builds};
 ghost use Rattle.runtime.specs.Executes.{Executes};
 
@@ -45,7 +44,7 @@ fn empty_runtime() -> Runtime
     Runtime {
         edges: [0; 2048],
         pending: [0; 4096],
-        horizons: [0; 128],
+        processes: [0; 256],
         batch: [0; 512],
         head: build::empty_header(),
     }
@@ -59,15 +58,24 @@ fn make_runtime<'a>(
     counts: &'a [u64],
     destinations: &'a [u32],
 ) -> Runtime
-    requires { ⌜ Writable (now sources) (now counts) (now destinations) (zeroes 2048) ⌝ }
+    requires { ⌜ CanInitialize n (durationOf lookahead) (now sources) (now counts) (now destinations) (zeroes 2048) (zeroes 256) ⌝ }
     ensures { λ r. ⌜ Makes n (durationOf lookahead) (now (sources .entry)) (now (counts .entry)) (now (destinations .entry)) r ⌝ }
 {
     let mut edges = [0u64; 2048];
-    let head = build::initialize(n, lookahead, sources, counts, destinations, &mut edges);
+    let mut processes = [0u64; 256];
+    let head = build::initialize(
+        n,
+        lookahead,
+        sources,
+        counts,
+        destinations,
+        &mut edges,
+        &mut processes,
+    );
     Runtime {
         edges: edges,
         pending: [0; 4096],
-        horizons: [0; 128],
+        processes: processes,
         batch: [0; 512],
         head: head,
     }
@@ -125,7 +133,13 @@ pub fn begin(mut state: Runtime, counters: Counters, horizon: SimTime, budget: u
     ensures { λ r. ⌜ Executes (Begin (ticksOf horizon) budget) state counters (r .answer) (r .state) (r .counters) ⌝ }
 {
     let head = state.head;
-    if is_foreign(head, &state.edges, &state.pending, &state.batch) {
+    if is_foreign(
+        head,
+        &state.edges,
+        &state.pending,
+        &state.processes,
+        &state.batch,
+    ) {
         return refuse_foreign(state, counters);
     }
     let begun = begin_run::begin(head, horizon, budget);
@@ -143,7 +157,13 @@ pub fn add_initial(mut state: Runtime, counters: Counters, m: Message) -> CallRe
     ensures { λ r. ⌜ Executes (AddInitial (messageOf m)) state counters (r .answer) (r .state) (r .counters) ⌝ }
 {
     let head = state.head;
-    if is_foreign(head, &state.edges, &state.pending, &state.batch) {
+    if is_foreign(
+        head,
+        &state.edges,
+        &state.pending,
+        &state.processes,
+        &state.batch,
+    ) {
         return refuse_foreign(state, counters);
     }
     let mut pending = state.pending;
@@ -163,19 +183,25 @@ pub fn step(state: Runtime, counters: Counters) -> CallResult
     ensures { λ r. ⌜ Executes Step state counters (r .answer) (r .state) (r .counters) ⌝ }
 {
     let head = state.head;
-    if is_foreign(head, &state.edges, &state.pending, &state.batch) {
+    if is_foreign(
+        head,
+        &state.edges,
+        &state.pending,
+        &state.processes,
+        &state.batch,
+    ) {
         return refuse_foreign(state, counters);
     }
     let mut edges = state.edges;
     let mut pending = state.pending;
-    let mut horizons = state.horizons;
+    let mut processes = state.processes;
     let mut batch = state.batch;
     let stepped = step::step(
         head,
         counters,
         &mut edges,
         &mut pending,
-        &mut horizons,
+        &mut processes,
         &mut batch,
     );
     let answer = stepped.answer;
@@ -186,7 +212,7 @@ pub fn step(state: Runtime, counters: Counters) -> CallResult
         state: Runtime {
             edges: edges,
             pending: pending,
-            horizons: horizons,
+            processes: processes,
             batch: batch,
             head: left,
         },
@@ -199,18 +225,24 @@ pub fn hand_back(mut state: Runtime, counters: Counters, mask: u64, reply: &[u64
     ensures { λ r. ⌜ Executes (HandBack mask (emissionsOf (length (now (reply .entry)) / 8) (now (reply .entry)))) state counters (r .answer) (r .state) (r .counters) ⌝ }
 {
     let head = state.head;
-    if is_foreign(head, &state.edges, &state.pending, &state.batch) {
+    if is_foreign(
+        head,
+        &state.edges,
+        &state.pending,
+        &state.processes,
+        &state.batch,
+    ) {
         return refuse_foreign(state, counters);
     }
     let mut pending = state.pending;
-    let mut horizons = state.horizons;
+    let mut processes = state.processes;
     let mut batch = state.batch;
     let handed = hand_back::hand_back(
         head,
         counters,
         &state.edges,
         &mut pending,
-        &mut horizons,
+        &mut processes,
         &mut batch,
         mask,
         reply,
@@ -219,7 +251,7 @@ pub fn hand_back(mut state: Runtime, counters: Counters, mask: u64, reply: &[u64
     let left = handed.head;
     let counted = handed.counters;
     state.pending = pending;
-    state.horizons = horizons;
+    state.processes = processes;
     state.batch = batch;
     state.head = left;
     CallResult {

@@ -22,7 +22,7 @@ left-lent k h c E Q Z B r E′ Q′ Z′ B′ a l e q z b g =
     record {
       edge-words = e ∙ l .edge-words;
       pending-words = q ∙ l .pending-words;
-      horizon-words = z ∙ l .horizon-words;
+      process-words = z ∙ l .process-words;
       batch-words = b ∙ l .batch-words;
       passes = passes-11 (view (r .head) E′ Q′ Z′ B′) (subst Shaped (sym (ap (λ (o : Out). o .after) g)) s);
     }

@@ -24,10 +24,10 @@ asGiven Step a = leavesStateAsGiven a
 asGiven (HandBack mask xs) a = leavesStateAsGiven a
 
 -- Header, counters and words are all as they were.
-pub record SameAsGiven (h : Header) (c : Counters) (edges pending horizons batch : List ℕ) (r : CoreResult) (edges′ pending′ horizons′ batch′ : List ℕ) : Type 0 where
+pub record SameAsGiven (h : Header) (c : Counters) (edges pending processes batch : List ℕ) (r : CoreResult) (edges′ pending′ processes′ batch′ : List ℕ) : Type 0 where
   pub same-head : r .head ≡ h
   pub same-counters : r .counters ≡ c
   pub same-edges : edges′ ≡ edges
   pub same-pending : pending′ ≡ pending
-  pub same-horizons : horizons′ ≡ horizons
+  pub same-processes : processes′ ≡ processes
   pub same-batch : batch′ ≡ batch

@@ -8,9 +8,9 @@ use Rattle.rules.specs.Foreign.{foreign}
 use Rattle.state.specs.declared.Header.{Header}
 use Rattle.state.specs.View.{view}
 
-pub record ValidArrays (h : Header) (edges pending horizons batch : List ℕ) : Type 0 where
+pub record ValidArrays (h : Header) (edges pending processes batch : List ℕ) : Type 0 where
   pub edge-words : length edges ≡ 2048
   pub pending-words : length pending ≡ 4096
-  pub horizon-words : length horizons ≡ 128
+  pub process-words : length processes ≡ 256
   pub batch-words : length batch ≡ 512
-  pub passes : foreign (view h edges pending horizons batch) ≡ false
+  pub passes : foreign (view h edges pending processes batch) ≡ false

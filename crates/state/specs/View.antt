@@ -3,7 +3,7 @@ use mathlib.Core.Bool.{Bool, true, false}
 use mathlib.Core.List.{List}
 use Prim.Native.Nat.{ℕ}
 use Rattle.types.specs.Value.{ticksOf, durationOf, lpIdOf}
-use Rattle.words.specs.Words.{horizonsOf}
+use Rattle.words.specs.Words.{horizonsOf, inboundsOf}
 use Rattle.records.specs.Records.{payloadOf, edgesOf, eventsOf}
 use Rattle.rules.specs.State as R
 use Rattle.rules.specs.State.{Event, Stored, unset, stored, State}
@@ -22,13 +22,14 @@ storedOf false h b = unset
 
 -- The first records of each array, as many as the header says. Reading past an array's end gives zeros, so a count over its limit is one of the state too.
 abbrev pub view : Header → List ℕ → List ℕ → List ℕ → List ℕ → State
-view h edges pending horizons batch = record {
+view h edges pending processes batch = record {
   n = h .n;
   lookahead = durationOf (h .lookahead);
   edges = edgesOf (h .edges) edges;
   pending = eventsOf (h .pending) pending;
   next = h .next;
-  horizons = horizonsOf (h .n) horizons;
+  horizons = horizonsOf (h .n) processes;
+  inbound = inboundsOf (h .n) processes;
   gvt = ticksOf (h .gvt);
   stored = storedOf (h .stored) (ticksOf (h .horizon)) (h .budget);
   used = h .used;
@@ -39,7 +40,7 @@ view h edges pending horizons batch = record {
 }
 
 abbrev pub viewOf : Runtime → State
-viewOf s = view (s .head) (s .edges) (s .pending) (s .horizons) (s .batch)
+viewOf s = view (s .head) (s .edges) (s .pending) (s .processes) (s .batch)
 
 abbrev pub countersOf : Counters → R.Counters
 countersOf c = record { handled = c .«processed_events»; emitted = c .«emitted_events»; remote = c .«remote_events»; rounds = c .rounds; «null_messages» = c .«null_messages»; «worker_count» = c .«worker_count» }

@@ -31,12 +31,13 @@ pub struct Header {
     pub poisoned: bool,
 }
 
-// A runtime by value. The header comes last: a search for a fact enters only so many records, and has to
-// come to the arrays.
+// A runtime by value: its edges, its pending events, a table with two ticks of each process, and the
+// batch in hand. The table has the local horizons and, from place 64 on, the least inbound bounds. The
+// header comes last: a search for a fact enters only so many records, and has to come to the arrays.
 pub struct Runtime {
     pub edges: [u64; 2048],
     pub pending: [u64; 4096],
-    pub horizons: [u64; 128],
+    pub processes: [u64; 256],
     pub batch: [u64; 512],
     pub head: Header,
 }

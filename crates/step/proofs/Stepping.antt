@@ -8,17 +8,17 @@ use lib.Dec.{eqb}
 use lib.ListN.{length}
 use borrow.Author.Tests.{eqb-true, eqb-false}
 use Rattle.types.specs.Value.{ticksOf}
-use Rattle.records.specs.Records.{edgesOf, eventAt, eventsOf}
+use Rattle.records.specs.Records.{eventAt, eventsOf}
 use Rattle.rules.specs.Base.{nonEmpty}
-use Rattle.rules.specs.State.{Edge, Event, State, withBatch}
+use Rattle.rules.specs.State.{Event, State, withBatch}
 use Rattle.rules.specs.Answers as A
 use Rattle.rules.specs.Rows.{out}
 use Rattle.rules.specs.Step.{takenAt, stepRun}
 use Rattle.rules.proofs.Tests.{by-bool, not-both}
 use Rattle.rules.proofs.Cases
 use Rattle.rules.proofs.Outcomes.{step-poisoned, step-nothing, step-runs, run-batch}
-use Rattle.frontiers.specs.Tables.{SafeFrontiers}
-use Rattle.frontiers.specs.Rises.{Sources, Destinations}
+use Rattle.inbound.specs.Inbound.{Destinations}
+use Rattle.frontiers.specs.Rises.{Sources}
 use Rattle.state.specs.declared.Header.{Header}
 use Rattle.state.specs.declared.Counters.{Counters}
 use Rattle.state.specs.declared.Answer.the-variants as P
@@ -30,13 +30,10 @@ use Rattle.state.proofs.Moves.{batch-moves}
 use Rattle.step_advance.specs.Advances.{CanAdvance}
 use Rattle.state.specs.declared.CoreResult.{CoreResult}
 use Rattle.step.specs.WithoutBatch.{NothingTaken, AdvancesOrRefuses}
-use Rattle.step.specs.Steps.{CanStep, StepAllowed, Refuses, CanFindFrontiers, CanTakeBatch, HandsOut, batchAnswered, Steps}
+use Rattle.step.specs.Steps.{CanStep, StepAllowed, Refuses, CanTakeBatch, HandsOut, batchAnswered, Steps}
 
 positive : (n : ℕ) → (n ≡ 0 → ⊥) → 0 < n
 positive n f = omega arith
-
-pub of-top : (n : ℕ) (es : List Edge) (t u : ℕ) (S : List ℕ) → t ≡ u → SafeFrontiers n es t S → SafeFrontiers n es u S
-of-top n es t u S e f = rw e at f
 
 none-is : (es : List Event) → es ≡ [] → nonEmpty es ≡ false
 unfolding nonEmpty
@@ -48,14 +45,14 @@ held-or false b e = refl
 
 module _ (h : Header) (c : Counters) (E Q Z B : List ℕ) (l : ValidArrays h E Q Z B) where
   pub step-of-poisoned : h .poisoned ≡ true → Steps h c E Q Z B (record { answer = P.Poisoned; head = h; counters = c }) E Q Z B
-  step-of-poisoned p = record { gives = sym (step-poisoned (view h E Q Z B) (countersOf c) (l .passes) p); kept = λ es x. record { same-head = refl; same-counters = refl; same-edges = refl; same-pending = refl; same-horizons = refl; same-batch = refl } }
+  step-of-poisoned p = record { gives = sym (step-poisoned (view h E Q Z B) (countersOf c) (l .passes) p); kept = λ es x. record { same-head = refl; same-counters = refl; same-edges = refl; same-pending = refl; same-processes = refl; same-batch = refl } }
 
   module _ (p : h .poisoned ≡ false) where
     pub step-closed : not (h .running) ≡ true → Steps h c E Q Z B (record { answer = P.NothingToStep; head = h; counters = c }) E Q Z B
-    step-closed r = record { gives = sym (step-nothing (view h E Q Z B) (countersOf c) (l .passes) p (rw r)); kept = λ es x. record { same-head = refl; same-counters = refl; same-edges = refl; same-pending = refl; same-horizons = refl; same-batch = refl } }
+    step-closed r = record { gives = sym (step-nothing (view h E Q Z B) (countersOf c) (l .passes) p (rw r)); kept = λ es x. record { same-head = refl; same-counters = refl; same-edges = refl; same-pending = refl; same-processes = refl; same-batch = refl } }
 
     pub step-held : 0 < h .batch → Steps h c E Q Z B (record { answer = P.NothingToStep; head = h; counters = c }) E Q Z B
-    step-held k = record { gives = sym (step-nothing (view h E Q Z B) (countersOf c) (l .passes) p (held-or (h .running) _ (some-events (eventAt B) 0 (h .batch) k))); kept = λ es x. record { same-head = refl; same-counters = refl; same-edges = refl; same-pending = refl; same-horizons = refl; same-batch = refl } }
+    step-held k = record { gives = sym (step-nothing (view h E Q Z B) (countersOf c) (l .passes) p (held-or (h .running) _ (some-events (eventAt B) 0 (h .batch) k))); kept = λ es x. record { same-head = refl; same-counters = refl; same-edges = refl; same-pending = refl; same-processes = refl; same-batch = refl } }
 
 -- 12 and 23, where one of them refuses.
 pub refusing : (h : Header) (c : Counters) → h .poisoned ≡ true → Refuses h c (record { answer = P.Poisoned; head = h; counters = c })
@@ -95,11 +92,9 @@ module _ (h : Header) (c : Counters) (E Q Z B : List ℕ) (l : ValidArrays h E Q
     stored = stored-is (h .stored) (ticksOf (h .horizon)) (h .budget) (is-stored h E Q Z B (l .passes) (p .open-run));
   }
 
-  module _ (Q′ B′ S : List ℕ) (g : Header)
-      (fronts : SafeFrontiers (h .n) (edgesOf (h .edges) E) (suc (ticksOf (h .horizon))) S)
-      (ho : HandsOut h Q S B g Q′ B′) where
+  module _ (Q′ B′ : List ℕ) (g : Header) (ho : HandsOut h Q Z B g Q′ B′) where
     taken : view g E Q′ Z B′ ≡ withBatch (view h E Q Z B) (takenAt (view h E Q Z B) (ticksOf (h .horizon)) (h .budget) .events) (takenAt (view h E Q Z B) (ticksOf (h .horizon)) (h .budget) .left)
-    taken = ho .state E Z fronts
+    taken = ho .state E
 
     events : eventsOf (g .batch) B′ ≡ takenAt (view h E Q Z B) (ticksOf (h .horizon)) (h .budget) .events
     events = ap (λ (s : State). s .batch) taken
@@ -122,11 +117,11 @@ module _ (h : Header) (c : Counters) (E Q Z B : List ℕ) (l : ValidArrays h E Q
       idle : NothingTaken (view h E Q Z B) (ticksOf (h .horizon)) (h .budget)
       idle = record { steps = steps; none-taken = none-is _ (sym events ∙ no-events (eventAt B′) 0 (g .batch) b) }
 
-      pub step-on : (E′ Z′ : List ℕ) (q : CoreResult) → AdvancesOrRefuses g c E Q′ Z S q E′ Z′ → Steps h c E Q Z B q E′ Q′ Z′ B′
+      pub step-on : (E′ Z′ : List ℕ) (q : CoreResult) → AdvancesOrRefuses g c E Q′ Z q E′ Z′ → Steps h c E Q Z B q E′ Q′ Z′ B′
       step-on E′ Z′ q go =
-          let go′ : AdvancesOrRefuses (withCounts h (g .pending) (g .batch)) c E Q′ Z S q E′ Z′ = subst (λ (x : Header). AdvancesOrRefuses x c E Q′ Z S q E′ Z′) (ho .head) go in
+          let go′ : AdvancesOrRefuses (withCounts h (g .pending) (g .batch)) c E Q′ Z q E′ Z′ = subst (λ (x : Header). AdvancesOrRefuses x c E Q′ Z q E′ Z′) (ho .head) go in
           record {
-            gives = go′ .gives B′ fronts (subst (λ (s : State). NothingTaken s (ticksOf (h .horizon)) (h .budget)) (sym same) idle)
+            gives = go′ .gives B′ (subst (λ (s : State). NothingTaken s (ticksOf (h .horizon)) (h .budget)) (sym same) idle)
                 ∙ ap (λ (s : State). stepRun s (countersOf c) (ticksOf (h .horizon)) (h .budget)) same
                 ∙ sym (step-runs (view h E Q Z B) (countersOf c) (ticksOf (h .horizon)) (h .budget) steps);
             kept = λ es x. not-both x (go .moves es);
@@ -134,34 +129,31 @@ module _ (h : Header) (c : Counters) (E Q Z B : List ℕ) (l : ValidArrays h E Q
 
 -- What the parts ask.
 module _ (h : Header) (E Q Z B : List ℕ) (l : ValidArrays h E Q Z B) where
-  pub frontable : h .running ≡ true → (S : List ℕ) → length S ≡ 128 → CanFindFrontiers h E S
-  unfolding Destinations
-  frontable r S n = record { few-processes = few-processes h E Q Z B (l .passes); edge-words = omega (arith, l .edge-words, few-edges h E Q Z B (l .passes)); destinations = edge-destinations h E Q Z B (l .passes); safe-words = n; horizon = below-top h E Q Z B (l .passes) r }
-
-  pub takeable : (S : List ℕ) → length S ≡ 128 → CanTakeBatch h Q S B
-  takeable S n = record {
+  pub takeable : h .running ≡ true → CanTakeBatch h Q Z B
+  takeable r = record {
     few-processes = few-processes h E Q Z B (l .passes);
     few-pending = few-pending h E Q Z B (l .passes);
     pending-words = l .pending-words;
-    safe-words = n;
+    process-words = l .process-words;
     batch-words = l .batch-words;
+    horizon = below-top h E Q Z B (l .passes) r;
     order = in-order h E Q Z B (l .passes);
     known = destinations h E Q Z B (l .passes);
   }
 
-  pub advanceable : (Q′ B′ S : List ℕ) (g : Header) → h .running ≡ true → HandsOut h Q S B g Q′ B′ → g .batch ≤ 0 → length Q′ ≡ 4096 → length S ≡ 128 → CanAdvance g E Z S × (8 * g .pending ≤ length Q′)
-  unfolding Sources
-  advanceable Q′ B′ S g r ho b n m =
+  pub advanceable : (Q′ B′ : List ℕ) (g : Header) → h .running ≡ true → HandsOut h Q Z B g Q′ B′ → g .batch ≤ 0 → length Q′ ≡ 4096 → CanAdvance g E Z × (8 * g .pending ≤ length Q′)
+  unfolding Sources Destinations
+  advanceable Q′ B′ g r ho b n =
       let f = l .passes in
       let k : 8 * g .pending ≤ length Q′ = omega (arith, ho .none (omega arith) .0, few-pending h E Q Z B f) in
-      let a : CanAdvance g E Z S =
+      let a : CanAdvance g E Z =
       rw (ho .head) (record {
         few-processes = few-processes h E Q Z B f;
         few = few-edges h E Q Z B f;
         edge-words = l .edge-words;
-        horizon-words = l .horizon-words;
-        aim-words = m;
+        process-words = l .process-words;
         sources = sources h E Q Z B f;
+        destinations = edge-destinations h E Q Z B f;
         horizon = below-top h E Q Z B f r;
       }) in
       (a, k)

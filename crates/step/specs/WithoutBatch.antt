@@ -2,15 +2,14 @@
 use mathlib.Core.Path.{_≡_}
 use mathlib.Core.Bool.{true, false}
 use mathlib.Core.List.{List}
-use Prim.Native.Nat.{ℕ, suc}
+use Prim.Native.Nat.{ℕ}
 use Rattle.types.specs.Value.{ticksOf}
-use Rattle.records.specs.Records.{edgesOf, eventsOf}
+use Rattle.records.specs.Records.{eventsOf}
 use Rattle.rules.specs.Base.{nonEmpty}
 use Rattle.rules.specs.State.{Event, State}
 use Rattle.rules.specs.Rows.{out}
 use Rattle.rules.specs.Step.{takenAt, countAdvance, stepRun}
 use Rattle.rules.proofs.Cases
-use Rattle.frontiers.specs.Tables.{SafeFrontiers}
 use Rattle.state.specs.declared.Header.{Header}
 use Rattle.state.specs.declared.Counters.{Counters}
 use Rattle.state.specs.declared.Answer.the-variants as P
@@ -26,9 +25,9 @@ pub record NothingTaken (s : State) (h b : ℕ) : Type 0 where
   pub none-taken : nonEmpty (takenAt s h b .events) ≡ false
 
 -- Answer, state and counters are the rule's, whatever the batch is; and the answer is none that leaves the state as given.
-pub record AdvancesOrRefuses (h : Header) (c : Counters) (edges pending horizons safe : List ℕ) (r : CoreResult) (edges′ horizons′ : List ℕ) : Type 0 where
-  pub gives : (B : List ℕ) → SafeFrontiers (h .n) (edgesOf (h .edges) edges) (suc (ticksOf (h .horizon))) safe → NothingTaken (view h edges pending horizons B) (ticksOf (h .horizon)) (h .budget)
-      → out (answerOf (eventsOf (r .head .batch) B) (r .answer)) (view (r .head) edges′ pending horizons′ B) (countersOf (r .counters)) ≡ stepRun (view h edges pending horizons B) (countersOf c) (ticksOf (h .horizon)) (h .budget)
+pub record AdvancesOrRefuses (h : Header) (c : Counters) (edges pending processes : List ℕ) (r : CoreResult) (edges′ processes′ : List ℕ) : Type 0 where
+  pub gives : (B : List ℕ) → NothingTaken (view h edges pending processes B) (ticksOf (h .horizon)) (h .budget)
+      → out (answerOf (eventsOf (r .head .batch) B) (r .answer)) (view (r .head) edges′ pending processes′ B) (countersOf (r .counters)) ≡ stepRun (view h edges pending processes B) (countersOf c) (ticksOf (h .horizon)) (h .budget)
   pub moves : (es : List Event) → leavesStateAsGiven (answerOf es (r .answer)) ≡ false
 
 -- The run is closed by 24, or because it is complete.

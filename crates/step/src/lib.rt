@@ -6,17 +6,14 @@ use state::Header;
 use step_advance::Advanced;
 use step_advance::exclusive_horizon;
 ghost use mathlib.Core.Path.{_≡_};
-ghost use Prim.Native.Nat.{_*_, _≤_, suc, _-_};
+ghost use Prim.Native.Nat.{_*_, _≤_, _-_};
 ghost use lib.ListN.{length};
 ghost use Rattle.rules.specs.Step.{countAdvance};
 ghost use Rattle.state.specs.View.{countersOf};
 ghost use Rattle.step_advance.specs.Advances.{CanAdvance};
 ghost use Rattle.step.specs.WithoutBatch.{spentOf, Rises, finishedOf, Answered, AdvancesOrRefuses};
-ghost use Rattle.types.specs.Value.{ticksOf};
-ghost use Rattle.records.specs.Records.{edgesOf};
-ghost use Rattle.frontiers.specs.Tables.{SafeFrontiers};
 ghost use Rattle.state.specs.ValidArrays.{ValidArrays};
-ghost use Rattle.step.specs.Steps.{CanStep, StepAllowed, Refuses, CanFindFrontiers, CanTakeBatch, HandsOut, batchAnswered, Steps};
+ghost use Rattle.step.specs.Steps.{CanStep, StepAllowed, Refuses, CanTakeBatch, HandsOut, batchAnswered, Steps};
 
 // "If anything rose, rounds + 1"; "each bound raised is one null message".
 fn count_advance(counters: Counters, raised: usize) -> Counters
@@ -85,20 +82,19 @@ pub fn advance_or_refuse(
     counters: Counters,
     edges: &mut [u64],
     pending: &[u64],
-    horizons: &mut [u64],
-    safe: &mut [u64],
+    processes: &mut [u64],
 ) -> CoreResult
-    requires { ⌜ CanAdvance head (now edges) (now horizons) (now safe) × (8 * head .pending ≤ length (now pending)) ⌝ }
-    ensures { λ r. ⌜ AdvancesOrRefuses head counters (now (edges .entry)) (now (pending .entry)) (now (horizons .entry)) (now (safe .entry)) r (now (edges .exit)) (now (horizons .exit)) ⌝ }
+    requires { ⌜ CanAdvance head (now edges) (now processes) × (8 * head .pending ≤ length (now pending)) ⌝ }
+    ensures { λ r. ⌜ AdvancesOrRefuses head counters (now (edges .entry)) (now (pending .entry)) (now (processes .entry)) r (now (edges .exit)) (now (processes .exit)) ⌝ }
 {
     let horizon = head.horizon;
     let top = exclusive_horizon(horizon);
     let mut first = [0u64; 128];
     frontiers::first_ticks(pending, head.pending, head.n, top, &mut first);
-    if step_advance::budget_spent(head, safe, &first) {
+    if step_advance::budget_spent(head, processes, &first, top) {
         return budget_exceeded(head, counters);
     }
-    let done = step_advance::advance(head, edges, horizons, safe, &first);
+    let done = step_advance::advance(head, edges, processes, &mut first, top);
     answered(done, counters)
 }
 
@@ -111,13 +107,15 @@ fn saturating_sub(a: u64, b: u64) -> u64
 
 // The first eligible event of each process is in hand, while used + taken < budget; freed places
 // are zero.
-fn hand_out(head: Header, pending: &mut [u64], safe: &[u64], batch: &mut [u64]) -> Header
-    requires { ⌜ CanTakeBatch head (now pending) (now safe) (now batch) ⌝ }
-    ensures { λ r. ⌜ HandsOut head (now (pending .entry)) (now (safe .entry)) (now (batch .entry)) r (now (pending .exit)) (now (batch .exit)) ⌝ }
+fn hand_out(head: Header, pending: &mut [u64], processes: &[u64], batch: &mut [u64]) -> Header
+    requires { ⌜ CanTakeBatch head (now pending) (now processes) (now batch) ⌝ }
+    ensures { λ r. ⌜ HandsOut head (now (pending .entry)) (now (processes .entry)) (now (batch .entry)) r (now (pending .exit)) (now (batch .exit)) ⌝ }
 {
     let count = head.pending;
     let room = saturating_sub(head.budget, head.used);
-    let scan = step_batch::take_batch(pending, count, safe, room, batch);
+    let horizon = head.horizon;
+    let top = exclusive_horizon(horizon);
+    let scan = step_batch::take_batch(pending, count, processes, top, room, batch);
     words::clear(pending, 8 * scan.kept, 8 * count);
     let mut h = head;
     h.pending = scan.kept;
@@ -154,15 +152,6 @@ fn refused(head: Header, counters: Counters) -> CoreResult
     }
 }
 
-// safe(p) of every process.
-fn find_frontiers(head: Header, edges: &[u64], safe: &mut [u64])
-    requires { ⌜ CanFindFrontiers head (now edges) (now safe) ⌝ }
-    ensures { λ _. ⌜ SafeFrontiers (head .n) (edgesOf (head .edges) (now (edges .entry))) (suc (ticksOf (head .horizon))) (now (safe .exit)) ⌝ }
-{
-    let horizon = head.horizon;
-    frontiers::compute_safe_frontiers(edges, head.edges, head.n, exclusive_horizon(horizon), safe);
-}
-
 // The batch is answered.
 fn batch_answer(head: Header, counters: Counters) -> CoreResult
     ensures { λ r. ⌜ r ≡ batchAnswered head counters ⌝ }
@@ -181,20 +170,18 @@ pub fn step(
     counters: Counters,
     edges: &mut [u64],
     pending: &mut [u64],
-    horizons: &mut [u64],
+    processes: &mut [u64],
     batch: &mut [u64],
 ) -> CoreResult
-    requires { ⌜ ValidArrays head (now edges) (now pending) (now horizons) (now batch) ⌝ }
-    ensures { λ r. ⌜ Steps head counters (now (edges .entry)) (now (pending .entry)) (now (horizons .entry)) (now (batch .entry)) r (now (edges .exit)) (now (pending .exit)) (now (horizons .exit)) (now (batch .exit)) ⌝ }
+    requires { ⌜ ValidArrays head (now edges) (now pending) (now processes) (now batch) ⌝ }
+    ensures { λ r. ⌜ Steps head counters (now (edges .entry)) (now (pending .entry)) (now (processes .entry)) (now (batch .entry)) r (now (edges .exit)) (now (pending .exit)) (now (processes .exit)) (now (batch .exit)) ⌝ }
 {
     if !can_step(head) {
         return refused(head, counters);
     }
-    let mut safe = [0u64; 128];
-    find_frontiers(head, edges, &mut safe);
-    let h = hand_out(head, pending, &safe, batch);
+    let h = hand_out(head, pending, processes, batch);
     if 0 < h.batch {
         return batch_answer(h, counters);
     }
-    advance_or_refuse(h, counters, edges, pending, horizons, &mut safe)
+    advance_or_refuse(h, counters, edges, pending, processes)
 }

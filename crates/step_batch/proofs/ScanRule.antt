@@ -7,7 +7,7 @@ use native.Mathlib.Omega.{arith}
 use lib.Dec.{leb, ltb, eqb}
 use borrow.Author.Tests.{eq-eqb, ne-eqb, le-leb, lt-leb, lt-ltb, leb-true, ltb-true}
 use Rattle.rules.specs.Base.{if_then_else_, Maybe, none, some, upFrom}
-use Rattle.rules.specs.State.{Event, Edge}
+use Rattle.rules.specs.State.{Event}
 use Rattle.rules.specs.Pending.{firstOf, withoutFirst}
 use Rattle.rules.specs.Frontiers.{safe, below, eligible}
 use Rattle.rules.specs.Step.{BatchTaken, takeEligibleAt, takeEligible}
@@ -15,14 +15,14 @@ use Rattle.rules.proofs.Tests.{and-left, and-right}
 use Rattle.rules.proofs.Lists.{All}
 use mathlib.Core.Logic.{⊎-elim}
 use Rattle.types.proofs.Halves.{lt-or-ge}
-use Rattle.step_batch.specs.ScanRule.{goes, stays, takes, seenBy, scan}
+use Rattle.step_batch.specs.ScanRule.{toBatch, keptPending, takes, seenBy, scan}
 
 -- A turn of the pass.
-pub scan-take : (front : ℕ → ℕ) (room seen : ℕ) (e : Event) (q : List Event) → takes front room seen e ≡ true → scan front room seen (e ∷ q) ≡ goes e (scan front (room - 1) (seenBy seen e) q)
+pub scan-take : (front : ℕ → ℕ) (room seen : ℕ) (e : Event) (q : List Event) → takes front room seen e ≡ true → scan front room seen (e ∷ q) ≡ toBatch e (scan front (room - 1) (seenBy seen e) q)
 unfolding scan if_then_else_
 scan-take front room seen e q t = rw t
 
-pub scan-keep : (front : ℕ → ℕ) (room seen : ℕ) (e : Event) (q : List Event) → takes front room seen e ≡ false → scan front room seen (e ∷ q) ≡ stays e (scan front room (seenBy seen e) q)
+pub scan-keep : (front : ℕ → ℕ) (room seen : ℕ) (e : Event) (q : List Event) → takes front room seen e ≡ false → scan front room seen (e ∷ q) ≡ keptPending e (scan front room (seenBy seen e) q)
 unfolding scan if_then_else_
 scan-keep front room seen e q t = rw t
 
@@ -46,12 +46,12 @@ and-no true true = refl
 and-no true false = refl
 and-no false b = refl
 
-module _ (edges : List Edge) (H : ℕ) where
+module _ (inbounds : List ℕ) (H : ℕ) where
   abbrev front : ℕ → ℕ
-  front p = safe edges H p
+  front p = safe inbounds H p
 
   abbrev rule : ℕ → ℕ → ℕ → List Event → BatchTaken
-  rule i k room q = takeEligible edges H (upFrom i k) room q
+  rule i k room q = takeEligible inbounds H (upFrom i k) room q
 
   -- tests of the pass
   takes-seen : (room seen : ℕ) (e : Event) → e .destination < seen → takes front room seen e ≡ false
@@ -74,7 +74,7 @@ module _ (edges : List Edge) (H : ℕ) where
   scan-full : (seen : ℕ) (q : List Event) → scan front 0 seen q ≡ record { events = []; left = q }
   unfolding scan
   scan-full seen [] = refl
-  scan-full seen (e ∷ q) = scan-keep front 0 seen e q (takes-full seen e) ∙ ap (stays e) (scan-full (seenBy seen e) q)
+  scan-full seen (e ∷ q) = scan-keep front 0 seen e q (takes-full seen e) ∙ ap (keptPending e) (scan-full (seenBy seen e) q)
 
   -- a process that has no event
   scan-on : (room i : ℕ) (e : Event) (q : List Event) → i < e .destination → scan front room i (e ∷ q) ≡ scan front room (suc i) (e ∷ q)
@@ -125,16 +125,16 @@ module _ (edges : List Edge) (H : ℕ) where
   batch-nil zero i room = refl
   batch-nil (suc k) i room = batch-nil k (suc i) room
 
-  -- an event of a process below i stays where it is
+  -- an event of a process below i is kept
   past-takeOne : (m : Maybe Event) (e : Event) (q : List Event) (i k room : ℕ) → eqb (e .destination) i ≡ false
-      → ((r : ℕ) (u : List Event) → rule (suc i) k r (e ∷ u) ≡ stays e (rule (suc i) k r u))
-      → takeEligibleAt m i (e ∷ q) room (rule (suc i) k) ≡ stays e (takeEligibleAt m i q room (rule (suc i) k))
+      → ((r : ℕ) (u : List Event) → rule (suc i) k r (e ∷ u) ≡ keptPending e (rule (suc i) k r u))
+      → takeEligibleAt m i (e ∷ q) room (rule (suc i) k) ≡ keptPending e (takeEligibleAt m i q room (rule (suc i) k))
   unfolding takeEligibleAt
   past-takeOne none e q i k room t ih = ih room q
   past-takeOne (some x) e q i k zero t ih = refl
-  past-takeOne (some x) e q i k (suc r) t ih = rw (drop-there e q i t) (ap (goes x) (ih r (withoutFirst q i)))
+  past-takeOne (some x) e q i k (suc r) t ih = rw (drop-there e q i t) (ap (toBatch x) (ih r (withoutFirst q i)))
 
-  past : (k i room : ℕ) (e : Event) (q : List Event) → e .destination < i → rule i k room (e ∷ q) ≡ stays e (rule i k room q)
+  past : (k i room : ℕ) (e : Event) (q : List Event) → e .destination < i → rule i k room (e ∷ q) ≡ keptPending e (rule i k room q)
   unfolding takeEligible upFrom eligible
   past zero i room e q h = refl
   past (suc k) i room e q h =
@@ -153,7 +153,7 @@ module _ (edges : List Edge) (H : ℕ) where
       seen : seenBy i e ≡ suc i
       seen = omega arith
 
-      next : (r : ℕ) → goes e (scan front (suc r - 1) (seenBy i e) q) ≡ goes e (scan front r (suc i) q)
+      next : (r : ℕ) → toBatch e (scan front (suc r - 1) (seenBy i e) q) ≡ toBatch e (scan front r (suc i) q)
       next r = let z : suc r - 1 ≡ r = omega arith in rw (seen, z)
 
       go : (b : Bool) → ltb (e .tick) (front (e .destination)) ≡ b → (room : ℕ) → rule i (suc k) room (e ∷ q) ≡ scan front room i (e ∷ q)
@@ -162,11 +162,11 @@ module _ (edges : List Edge) (H : ℕ) where
           ∙ sym (scan-full i (e ∷ q))
       go true l (suc r) =
           batch-is i k (suc r) (e ∷ q) (some e) (rw (first-here e q i t) (eligible-yes e (front i) (rw d at l)))
-          ∙ ap (λ (u : List Event). goes e (rule (suc i) k r u)) (drop-here e q i t) ∙ ap (goes e) (ih r)
+          ∙ ap (λ (u : List Event). toBatch e (rule (suc i) k r u)) (drop-here e q i t) ∙ ap (toBatch e) (ih r)
           ∙ sym (scan-take front (suc r) i e q (takes-yes r i e (omega arith) l) ∙ next r)
       go false l room =
           batch-is i k room (e ∷ q) none (rw (first-here e q i t) (eligible-no e (front i) (rw d at l)))
-          ∙ past k (suc i) room e q (omega arith) ∙ ap (stays e) (ih room)
+          ∙ past k (suc i) room e q (omega arith) ∙ ap (keptPending e) (ih room)
           ∙ sym (scan-keep front room i e q (takes-late room i e l) ∙ rw seen)
 
   all-above : (i d : ℕ) (q : List Event) → i < d → All (λ (f : Event). d ≤ f .destination) q → All (λ (f : Event). i < f .destination) q
@@ -181,9 +181,9 @@ module _ (edges : List Edge) (H : ℕ) where
   unfolding below
   none-is k = refl
 
-  grabbed : (i k room : ℕ) (q : List Event) → takeEligibleAt none i q room (rule (suc i) k) ≡ rule (suc i) k room q
+  none-taken : (i k room : ℕ) (q : List Event) → takeEligibleAt none i q room (rule (suc i) k) ≡ rule (suc i) k room q
   unfolding takeEligibleAt
-  grabbed i k room q = refl
+  none-taken i k room q = refl
 
   -- for sorted events of processes below i + k
   pub scan-is : (k i room : ℕ) (q : List Event) → Sorted q → All (λ (f : Event). f .destination < i + k) q → rule i k room q ≡ scan front room i q
@@ -192,16 +192,16 @@ module _ (edges : List Edge) (H : ℕ) where
   scan-is zero i room (e ∷ q) s a =
       let h : e .destination < i = omega (arith, a .0) in
       let m : seenBy i e ≡ i = omega arith in
-      past 0 i room e q h ∙ ap (stays e) (scan-is 0 i room q (s .1) (a .1)) ∙ sym (scan-keep front room i e q (takes-seen room i e h) ∙ rw m)
+      past 0 i room e q h ∙ ap (keptPending e) (scan-is 0 i room q (s .1) (a .1)) ∙ sym (scan-keep front room i e q (takes-seen room i e h) ∙ rw m)
   scan-is (suc k) i room (e ∷ q) s a =
       ⊎-elim
       (λ (h : e .destination < i).
       let m : seenBy i e ≡ i = omega arith in
-      past (suc k) i room e q h ∙ ap (stays e) (scan-is (suc k) i room q (s .1) (a .1)) ∙ sym (scan-keep front room i e q (takes-seen room i e h) ∙ rw m))
+      past (suc k) i room e q h ∙ ap (keptPending e) (scan-is (suc k) i room q (s .1) (a .1)) ∙ sym (scan-keep front room i e q (takes-seen room i e h) ∙ rw m))
       (λ (h : i ≤ e .destination). ⊎-elim
       (λ (g : i < e .destination).
       batch-is i k room (e ∷ q) none (rw (first-none (e ∷ q) i (g, all-above i (e .destination) q g (s .0))) (none-is (front i)))
-      ∙ grabbed i k room (e ∷ q) ∙ scan-is k (suc i) room (e ∷ q) s (all-up i k (e ∷ q) a) ∙ sym (scan-on room i e q g))
+      ∙ none-taken i k room (e ∷ q) ∙ scan-is k (suc i) room (e ∷ q) s (all-up i k (e ∷ q) a) ∙ sym (scan-on room i e q g))
       (λ (g : e .destination ≤ i). here k i room e q (omega arith) (λ r. scan-is k (suc i) r q (s .1) (all-up i k q (a .1))))
       (lt-or-ge i (e .destination)))
       (lt-or-ge (e .destination) i)

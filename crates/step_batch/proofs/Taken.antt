@@ -6,18 +6,21 @@ use Prim.Native.Nat.{ℕ, _+_, _≤_, _<_}
 use native.Mathlib.Omega.{arith}
 use lib.ListN.{length}
 use Rattle.rules.specs.Base.{upTo, rising}
-use Rattle.rules.specs.State.{Event, Edge}
+use Rattle.rules.specs.State.{Event}
 use Rattle.rules.specs.Pending.{before}
 use Rattle.rules.specs.Frontiers.{safe}
 use Rattle.rules.specs.Step.{BatchTaken, takeEligible}
 use Rattle.rules.proofs.Tests.{by-test}
 use Rattle.rules.proofs.Lists.{All, all-map}
 use Rattle.rules.proofs.Order.{Pairs, test-before, rising-pairs}
+use Rattle.words.specs.Words.{inboundsOf}
 use Rattle.words.proofs.Tab.{length-tab}
 use Rattle.records.specs.Records.{eventAt, eventsOf, Owners}
 use Rattle.records.proofs.Placing.{all-at}
+use Rattle.inbound.specs.Inbound.{frontierIn}
+use Rattle.inbound.proofs.Recording.{safe-in}
 use Rattle.step_batch.specs.ScanRule.{seenBy, scan}
-use Rattle.step_batch.specs.Scan.{frontierAt, TakesBatch}
+use Rattle.step_batch.specs.Scan.{TakesBatch}
 use Rattle.step_batch.specs.declared.BatchScan.{BatchScan}
 use Rattle.step_batch.proofs.ScanRule.{Sorted, scan-is, scan-cong}
 
@@ -29,22 +32,22 @@ pairs-sorted (e ∷ q) a = (a .0, pairs-sorted q (a .1))
 pub stand-by : (q : List Event) → rising before q ≡ true → Sorted q
 stand-by q h = pairs-sorted q (rising-pairs before (λ (e f : Event). e .destination ≤ f .destination) (λ e f t. test-before e f t .destinations) (λ e f g a b. omega arith) q h)
 
--- The frontiers of processes 0 to n - 1 are in the table.
-abbrev pub Fronts : List Edge → ℕ → ℕ → List ℕ → Type 0
-Fronts es H n table = (p : ℕ) → p < n → frontierAt table p ≡ safe es H p
+-- The record of n processes, in the words `processes`.
+module _ (n : ℕ) (processes : List ℕ) (H room : ℕ) where
+  abbrev inbounds : List ℕ
+  inbounds = inboundsOf n processes
 
-module _ (es : List Edge) (H n : ℕ) (table : List ℕ) (fronts : Fronts es H n table) (room : ℕ) where
-  pub scanned : (q : List Event) → rising before q ≡ true → All (λ (e : Event). e .destination < n) q → scan (frontierAt table) room 0 q ≡ takeEligible es H (upTo n) room q
+  pub scanned : (q : List Event) → rising before q ≡ true → All (λ (e : Event). e .destination < n) q → scan (frontierIn processes H) room 0 q ≡ takeEligible inbounds H (upTo n) room q
   unfolding upTo
   scanned q o a =
       let b : All (λ (e : Event). e .destination < 0 + n) q = all-map (λ (e : Event). e .destination < n) (λ (e : Event). e .destination < 0 + n) (λ e h. omega arith) q a in
-      scan-cong (frontierAt table) (λ p. safe es H p) n room 0 q fronts a ∙ sym (scan-is es H n 0 room q (stand-by q o) b)
+      scan-cong (frontierIn processes H) (safe inbounds H) n room 0 q (λ p h. sym (safe-in n H p processes h)) a ∙ sym (scan-is inbounds H n 0 room q (stand-by q o) b)
 
   -- What the pass leaves is what the rule takes and leaves.
-  pub took-rule : (count : ℕ) (w b u c : List ℕ) (r : BatchScan) → TakesBatch count table room w b u c r → rising before (eventsOf count w) ≡ true → All (λ (e : Event). e .destination < n) (eventsOf count w)
-      → record { events = eventsOf (r .taken) c; left = eventsOf (r .kept) u } ≡ takeEligible es H (upTo n) room (eventsOf count w)
+  pub took-rule : (count : ℕ) (w b u c : List ℕ) (r : BatchScan) → TakesBatch count (frontierIn processes H) room w b u c r → rising before (eventsOf count w) ≡ true → All (λ (e : Event). e .destination < n) (eventsOf count w)
+      → record { events = eventsOf (r .taken) c; left = eventsOf (r .kept) u } ≡ takeEligible inbounds H (upTo n) room (eventsOf count w)
   took-rule count w b u c r t o a =
-      let s : BatchTaken = scan (frontierAt table) room 0 (eventsOf count w) in
+      let s : BatchTaken = scan (frontierIn processes H) room 0 (eventsOf count w) in
       let e : record { events = eventsOf (r .taken) c; left = eventsOf (r .kept) u } ≡ s = λ i. record { events = t .events i; left = t .left i } in
       e ∙ scanned (eventsOf count w) o a
 
@@ -55,16 +58,16 @@ owners count n w h a i l =
     let d : eventAt w i .destination < n = all-at (λ (e : Event). e .destination < n) (eventAt w) 0 count i a (omega arith) (omega arith) in
     omega arith
 
-all-stay : (front : ℕ → ℕ) (room seen : ℕ) (q : List Event) → length (scan front room seen q .events) ≡ 0 → scan front room seen q .left ≡ q
+all-kept : (front : ℕ → ℕ) (room seen : ℕ) (q : List Event) → length (scan front room seen q .events) ≡ 0 → scan front room seen q .left ≡ q
 unfolding scan
-all-stay front room seen [] h = refl
-all-stay front room seen (e ∷ q) h =
-    by-test (λ (t : BatchTaken). length (t .events) ≡ 0 → t .left ≡ (e ∷ q)) (λ _ z. absurd (omega arith)) (λ _ z. ap (λ (x : List Event). e ∷ x) (all-stay front room (seenBy seen e) q z)) h
+all-kept front room seen [] h = refl
+all-kept front room seen (e ∷ q) h =
+    by-test (λ (t : BatchTaken). length (t .events) ≡ 0 → t .left ≡ (e ∷ q)) (λ _ z. absurd (omega arith)) (λ _ z. ap (λ (x : List Event). e ∷ x) (all-kept front room (seenBy seen e) q z)) h
 
-module _ (count : ℕ) (table : List ℕ) (room : ℕ) (w b u c : List ℕ) (r : BatchScan) (t : TakesBatch count table room w b u c r) where
-  taken-is : r .taken ≡ length (scan (frontierAt table) room 0 (eventsOf count w) .events)
+module _ (count : ℕ) (front : ℕ → ℕ) (room : ℕ) (w b u c : List ℕ) (r : BatchScan) (t : TakesBatch count front room w b u c r) where
+  taken-is : r .taken ≡ length (scan front room 0 (eventsOf count w) .events)
   taken-is = sym (length-tab (eventAt c) 0 (r .taken)) ∙ ap length (t .events)
 
   -- Where nothing was taken, nothing moved.
   pub took-none : r .taken ≡ 0 → eventsOf (r .kept) u ≡ eventsOf count w
-  took-none e = t .left ∙ all-stay (frontierAt table) room 0 (eventsOf count w) (omega (arith, taken-is))
+  took-none e = t .left ∙ all-kept front room 0 (eventsOf count w) (omega (arith, taken-is))

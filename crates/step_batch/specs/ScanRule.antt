@@ -7,12 +7,12 @@ use Rattle.rules.specs.Base.{if_then_else_}
 use Rattle.rules.specs.State.{Event}
 use Rattle.rules.specs.Step.{BatchTaken}
 
--- The event goes to the batch, or stays.
-abbrev pub goes : Event → BatchTaken → BatchTaken
-goes e r = record { events = e ∷ r .events; left = r .left }
+-- The event is taken to the batch, or kept pending.
+abbrev pub toBatch : Event → BatchTaken → BatchTaken
+toBatch e r = record { events = e ∷ r .events; left = r .left }
 
-abbrev pub stays : Event → BatchTaken → BatchTaken
-stays e r = record { events = r .events; left = e ∷ r .left }
+abbrev pub keptPending : Event → BatchTaken → BatchTaken
+keptPending e r = record { events = r .events; left = e ∷ r .left }
 
 -- It is its process's first (processes below `seen` have been seen), there is room, and its tick is below the frontier.
 unfoldable pub takes : (ℕ → ℕ) → ℕ → ℕ → Event → Bool
@@ -23,4 +23,4 @@ seenBy seen e = max seen (e .destination + 1)
 
 unfoldable pub scan : (ℕ → ℕ) → ℕ → ℕ → List Event → BatchTaken
 scan safe room seen [] = record { events = []; left = [] }
-scan safe room seen (e ∷ q) = if takes safe room seen e then goes e (scan safe (room - 1) (seenBy seen e) q) else stays e (scan safe room (seenBy seen e) q)
+scan safe room seen (e ∷ q) = if takes safe room seen e then toBatch e (scan safe (room - 1) (seenBy seen e) q) else keptPending e (scan safe room (seenBy seen e) q)

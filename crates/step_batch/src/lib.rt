@@ -10,7 +10,8 @@ ghost use lib.Dec.{ltb};
 ghost use lib.ListN.{length};
 ghost use Rattle.types.specs.Value.{ticksOf};
 ghost use Rattle.records.specs.Records.{recordIn, putRecord, Owners};
-ghost use Rattle.step_batch.specs.Scan.{frontierAt, Scannable, EventScanned, TakesBatch};
+ghost use Rattle.inbound.specs.Inbound.{frontierIn};
+ghost use Rattle.step_batch.specs.Scan.{Scannable, EventScanned, TakesBatch};
 
 // Where the pass is: how many are kept and taken, how many more may be taken, and the first process
 // not yet seen.
@@ -22,16 +23,17 @@ pub struct BatchScan {
 }
 
 // The first eligible event of each process goes to the batch, at most `room`, and the gaps close.
-// `safe` is a table of frontiers.
+// `top` is H; with it, a frontier is read from the record in `processes`.
 pub fn take_batch(
     pending: &mut [u64],
     count: usize,
-    safe: &[u64],
+    processes: &[u64],
+    top: SimTime,
     room: u64,
     batch: &mut [u64],
 ) -> BatchScan
-    requires { ⌜ (count ≤ 512) × (length (now pending) ≡ 4096) × (length (now safe) ≡ 128) × (length (now batch) ≡ 512) × Owners count (now pending) ⌝ }
-    ensures { λ r. ⌜ TakesBatch count (now (safe .entry)) room (now (pending .entry)) (now (batch .entry)) (now (pending .exit)) (now (batch .exit)) r ⌝ }
+    requires { ⌜ (count ≤ 512) × (length (now pending) ≡ 4096) × (length (now processes) ≡ 256) × (length (now batch) ≡ 512) × Owners count (now pending) ⌝ }
+    ensures { λ r. ⌜ TakesBatch count (frontierIn (now (processes .entry)) (ticksOf top)) room (now (pending .entry)) (now (batch .entry)) (now (pending .exit)) (now (batch .exit)) r ⌝ }
 {
     let mut s = BatchScan {
         kept: 0,
@@ -41,7 +43,7 @@ pub fn take_batch(
     };
     let mut i: usize = 0;
     while i < count {
-        s = scan_event(pending, i, safe, batch, s);
+        s = scan_event(pending, i, processes, top, batch, s);
         i += 1;
     }
     s
@@ -52,12 +54,13 @@ pub fn take_batch(
 fn scan_event(
     pending: &mut [u64],
     i: usize,
-    safe: &[u64],
+    processes: &[u64],
+    top: SimTime,
     batch: &mut [u64],
     s: BatchScan,
 ) -> BatchScan
-    requires { ⌜ Scannable i (now pending) (now safe) (now batch) s ⌝ }
-    ensures { λ r. ⌜ EventScanned i (now (safe .entry)) (now (pending .entry)) (now (batch .entry)) (now (pending .exit)) (now (batch .exit)) s r ⌝ }
+    requires { ⌜ Scannable i (now pending) (now processes) (now batch) s ⌝ }
+    ensures { λ r. ⌜ EventScanned i (frontierIn (now (processes .entry)) (ticksOf top)) (now (pending .entry)) (now (batch .entry)) (now (pending .exit)) (now (batch .exit)) s r ⌝ }
 {
     let to = pending[8 * i];
     if to < s.seen {
@@ -70,7 +73,7 @@ fn scan_event(
         };
     }
     let t = words::tick_in(pending, 8 * i + 1);
-    if is_taken(safe, to, t, s.room) {
+    if is_taken(processes, to, t, top, s.room) {
         let e = records::record_in(pending, 8 * i);
         let at = s.taken;
         records::put_record(batch, 8 * at, e);
@@ -91,15 +94,14 @@ fn scan_event(
 }
 
 // There is room, and the tick of the process's first event is below its frontier.
-fn is_taken(safe: &[u64], to: u64, t: SimTime, room: u64) -> bool
-    requires { ⌜ (to < 64) × (length (now safe) ≡ 128) ⌝ }
-    ensures { λ r. ⌜ r ≡ (ltb 0 room && ltb (ticksOf t) (frontierAt (now (safe .entry)) to)) ⌝ }
+fn is_taken(processes: &[u64], to: u64, t: SimTime, top: SimTime, room: u64) -> bool
+    requires { ⌜ (to < 64) × (length (now processes) ≡ 256) ⌝ }
+    ensures { λ r. ⌜ r ≡ (ltb 0 room && ltb (ticksOf t) (frontierIn (now (processes .entry)) (ticksOf top) to)) ⌝ }
 {
     if room == 0 {
         return false;
     }
-    let at = (2 * to) as usize;
-    let front = words::tick_in(safe, at);
+    let front = inbound::frontier(processes, to as usize, top);
     t.lt(front)
 }
 

@@ -169,7 +169,7 @@ pub fn compare(program: &Path, seed: u64, count: u64) -> bool {
     let (lists, by_rust, by_rules) = (tally.lists, tally.by_rust, tally.by_rules);
     let calls = by_rust + by_rules;
     let name = name(program);
-    println!("calls: our program {name}, seed {seed}: {calls} builds and calls in {lists} lists in {files} files, {by_rust} answered by the Rust, {by_rules} by document 01 alone");
+    println!("calls: our program {name}, seed {seed}: {calls} builds and calls in {lists} lists in {files} files, {by_rust} answered by the Rust, {by_rules} by the documents alone");
     println!("calls: {} differences", differences.len());
     let given = states::compare(program, seed, count, &mut tally);
     let seen = tally.refusals[1..].iter().filter(|seen| **seen > 0).count();
@@ -215,7 +215,7 @@ fn text_of(rules: Rules, all: &[Expected]) -> String {
 
 /// What a list of calls from build does not show: it is met from states given whole alone (states.rs), or,
 /// the owners, printed in no line.
-const UNSEEN: [Variant; 9] = [
+const UNSEEN: [Variant; 15] = [
     Variant::ClosedByStoredHorizon,
     Variant::OneLessWraps,
     Variant::GvtFalls,
@@ -224,6 +224,12 @@ const UNSEEN: [Variant; 9] = [
     Variant::SequenceOverflowEarly,
     Variant::CountersWrap,
     Variant::ForeignWithoutHorizon,
+    Variant::ForeignWithoutRecord,
+    Variant::ForeignFirstRecord,
+    Variant::ForeignLastRecordUnseen,
+    Variant::ForeignLowRecordUnseen,
+    Variant::ForeignHighRecordUnseen,
+    Variant::ForeignRecordByLowerHalf,
     Variant::OwnersFromOne,
 ];
 

@@ -22,6 +22,7 @@ pub enum Kind {
     Bounds,
     Pending,
     Horizons,
+    Record,
     Gvt,
     Stored,
     Batch,
@@ -66,6 +67,7 @@ impl Display for Kind {
             Kind::Bounds => "bounds",
             Kind::Pending => "pending",
             Kind::Horizons => "horizons",
+            Kind::Record => "least inbound bounds",
             Kind::Gvt => "GVT",
             Kind::Stored => "stored horizon and budget",
             Kind::Batch => "batch",
@@ -109,7 +111,7 @@ impl Check {
         self.same(Kind::Counters, rust, rules)
     }
 
-    /// Everything of the state that document 01 compares after each call.
+    /// Everything of the state that document 01 compares after each call, and A.2's record.
     pub fn state(&self, a: &State, b: &State) -> Option<Difference> {
         let sizes = |s: &State| (s.n, s.lookahead);
         let flags = |s: &State| [s.initial, s.running, s.poisoned];
@@ -119,6 +121,7 @@ impl Check {
             .or_else(|| self.same(Kind::Bounds, &a.edges, &b.edges))
             .or_else(|| self.same(Kind::Pending, &a.pending, &b.pending))
             .or_else(|| self.same(Kind::Horizons, &a.horizons, &b.horizons))
+            .or_else(|| self.same(Kind::Record, &a.inbound, &b.inbound))
             .or_else(|| self.same(Kind::Gvt, &a.gvt, &b.gvt))
             .or_else(|| self.same(Kind::Stored, &a.stored, &b.stored))
             .or_else(|| self.same(Kind::Batch, &a.batch, &b.batch))

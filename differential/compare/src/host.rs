@@ -4,15 +4,17 @@ use model::{Call, Emission, Event, Message, Reply, Task};
 use std::collections::VecDeque;
 use words::Line;
 
-/// The parts of a line that the original shows too. It keeps no budget, no count of events used and
-/// no batch between runs, and has no open run.
-pub const PARTS: [&str; 9] = [
+/// The parts of a line that the original shows too: it has no record of least inbound bounds, and they
+/// are computed of its bounds (`oracle`). It keeps no budget, no count of events used and no batch
+/// between runs, and has no open run.
+pub const PARTS: [&str; 10] = [
     "answer",
     "counters",
     "sizes, next sequence number and GVT",
     "bounds",
     "pending events",
     "local horizons",
+    "least inbound bounds",
     "stored horizon",
     "whether initial events are open",
     "whether it is poisoned",
@@ -40,6 +42,7 @@ pub fn parts(line: &Line) -> Vec<String> {
         line.edges.to_string(),
         line.pending.to_string(),
         line.horizons.to_string(),
+        line.inbound.to_string(),
         but_last(line.stored),
         flag(0),
         flag(2),

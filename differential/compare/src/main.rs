@@ -21,6 +21,7 @@ mod host;
 mod lists;
 mod plans;
 mod program;
+mod records;
 mod rehearse;
 mod run_files;
 mod run_slips;

@@ -238,7 +238,7 @@ fn print(tally: &Tally, seed: u64, files: u64) {
         refusals,
         ..
     } = tally;
-    println!("plans: our program, seed {seed}: {plans} plans in {lists} lists in {files} files, {by_rust} answered by the Rust, {by_rules} by document 01 alone");
+    println!("plans: our program, seed {seed}: {plans} plans in {lists} lists in {files} files, {by_rust} answered by the Rust, {by_rules} by the documents alone");
     let refused = [1, 2, 34, 36, 35].map(|number| format!("{number}: {}", refusals[number]));
     println!(
         "plans: planned: {}; refused: {}",

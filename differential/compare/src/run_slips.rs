@@ -21,8 +21,9 @@ const SIZES: usize = 2;
 const EDGES: usize = 3;
 const PENDING: usize = 4;
 const HORIZONS: usize = 5;
-const BATCH_IN_HAND: usize = 7;
-const FLAGS: usize = 8;
+const INBOUND: usize = 6;
+const BATCH_IN_HAND: usize = 8;
+const FLAGS: usize = 9;
 
 fn field(line: &str, at: usize) -> &str {
     let mut fields = line.trim_end_matches('\n').split(" | ");
@@ -172,7 +173,7 @@ fn ends_early(planned: &Planned) -> Option<Lines> {
 type Change = (&'static str, fn(&Planned) -> Option<Lines>);
 
 /// Texts that are wrong in one place each. None where a scenario has no such place.
-const CHANGES: [Change; 28] = [
+const CHANGES: [Change; 30] = [
     ("handled is another", |p| in_last(p, COUNTERS, 0, 0)),
     ("emitted is another", |p| in_last(p, COUNTERS, 1, 0)),
     ("remote is another", |p| in_last(p, COUNTERS, 2, 0)),
@@ -187,6 +188,12 @@ const CHANGES: [Change; 28] = [
     ("GVT is another", |p| in_last(p, SIZES, 3, 0)),
     ("a bound is another", |p| in_last(p, EDGES, 0, 2)),
     ("a local horizon is another", |p| in_last(p, HORIZONS, 0, 0)),
+    ("a least inbound bound is another", |p| {
+        in_last(p, INBOUND, 0, 0)
+    }),
+    ("a least inbound bound is missing", |p| {
+        one_less(p, INBOUND, &ends(p))
+    }),
     ("a pending event's destination is another", |p| {
         in_last(p, PENDING, 0, 0)
     }),
@@ -280,7 +287,7 @@ fn lines_by(rules: Rules, planned: &Planned) -> Lines {
 /// What whole runs from build do not show: it needs a state set by hand, a call that a host which
 /// answers its batches does not make (a plan, a read, a malformed reply),
 /// or it concerns the open run and the batch, which the original does not keep.
-const UNSEEN: [Variant; 16] = [
+const UNSEEN: [Variant; 22] = [
     Variant::ClosedByStoredHorizon,
     Variant::OneLessWraps,
     Variant::GvtFalls,
@@ -293,6 +300,12 @@ const UNSEEN: [Variant; 16] = [
     Variant::MalformedLosesBatch,
     Variant::ReadsRefusePoisoned,
     Variant::ForeignWithoutHorizon,
+    Variant::ForeignWithoutRecord,
+    Variant::ForeignFirstRecord,
+    Variant::ForeignLastRecordUnseen,
+    Variant::ForeignLowRecordUnseen,
+    Variant::ForeignHighRecordUnseen,
+    Variant::ForeignRecordByLowerHalf,
     Variant::PlanByGeneration,
     Variant::GreatestEntityTwice,
     Variant::PlanWritesBeforeTwice,

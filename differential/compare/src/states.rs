@@ -2,6 +2,7 @@
 //! set by hand in the original too, and states that 11 refuses, which the original cannot have.
 use crate::lists;
 use crate::program::{first_other, name, printed, shown, BATCH};
+use crate::records;
 use crate::store;
 use crate::tally::Tally;
 use generate::{Dice, CLAUSES};
@@ -12,13 +13,23 @@ use std::path::Path;
 /// One in so many states is foreign.
 const FOREIGN: u64 = 4;
 
-/// A state with its counters, the calls on it, and the line that each is to have.
-struct Given {
-    state: State,
-    counters: Counters,
-    calls: Vec<Call>,
-    lines: Vec<String>,
-    answers: Vec<(Answer, Origin)>,
+/// A state with its counters, the calls on it, and the lines that it and each call are to have.
+pub struct Given {
+    pub state: State,
+    pub counters: Counters,
+    pub calls: Vec<Call>,
+    pub lines: Vec<String>,
+    pub answers: Vec<(Answer, Origin)>,
+    /// Whose state it is.
+    pub origin: Origin,
+    /// What stands where nothing counts.
+    pub noise: u32,
+}
+
+impl Given {
+    pub fn words(&self) -> Vec<u64> {
+        words::encode_given(&self.state, &self.counters, &self.calls, self.noise)
+    }
 }
 
 /// As much of a state as the program's arrays hold: no more is printed.
@@ -28,6 +39,7 @@ fn held(s: &State) -> State {
     held.pending.truncate(512);
     held.batch.truncate(64);
     held.horizons.resize(s.n.min(64) as usize, 0);
+    held.inbound.resize(s.n.min(64) as usize, 0);
     held
 }
 
@@ -49,7 +61,7 @@ fn host(rules: Rules, state: &State, counters: &Counters) -> Host {
 }
 
 /// One of each call.
-fn each_call() -> Vec<Call> {
+pub fn each_call() -> Vec<Call> {
     let message = Message {
         source: 0,
         destination: 0,
@@ -74,35 +86,41 @@ fn each_call() -> Vec<Call> {
     ]
 }
 
-/// A state that 11 refuses by this clause. The original has no such states: document 01 alone answers.
-fn foreign(dice: &mut Dice, clause: u64) -> Option<Given> {
-    let (state, counters) = generate::foreign(dice, clause)?;
+/// A state that 11 refuses. The original has no such states: the documents alone answer.
+pub fn refused(state: State, counters: Counters, calls: Vec<Call>, noise: u32) -> Given {
     assert!(
         Rules::RIGHT.foreign(&state),
-        "clause {clause} is not broken"
+        "this is not foreign: {state:?}"
     );
     let mut host = host(Rules::RIGHT, &state, &counters);
     let mut lines = vec![words::given_line(&counters, &held(&state))];
     let mut answers = vec![];
-    let calls = each_call();
     for call in &calls {
         let (answer, line) = line_by(&mut host, call);
         lines.push(line);
         answers.push((answer, Origin::Rules));
     }
-    Some(Given {
+    Given {
         state,
         counters,
         calls,
         lines,
         answers,
-    })
+        origin: Origin::Rules,
+        noise,
+    }
+}
+
+/// One that 11 refuses by this clause.
+fn foreign(dice: &mut Dice, clause: u64, noise: u32) -> Option<Given> {
+    let (state, counters) = generate::foreign(dice, clause)?;
+    Some(refused(state, counters, each_call(), noise))
 }
 
 /// A state whose private fields are set by hand in the original, which answers the calls.
-fn set_by_hand(dice: &mut Dice) -> Option<Given> {
+fn set_by_hand(dice: &mut Dice, noise: u32) -> Option<Given> {
     let mut list = generate::list(dice);
-    list.odd.as_ref()?;
+    let wrong = list.odd.as_ref()?.record.is_some();
     list.calls.retain(|call| !matches!(call, Call::Plan { .. }));
     let observed = lists::observe(&list);
     let built = observed.built.as_ref().ok()?;
@@ -115,16 +133,19 @@ fn set_by_hand(dice: &mut Dice) -> Option<Given> {
         answers: answers.map(|s| (s.answer.clone(), s.origin)).collect(),
         calls: list.calls,
         lines,
+        origin: if wrong { Origin::Rules } else { Origin::Rust },
+        noise,
     })
 }
 
 /// The state with this number.
 fn given(seed: u64, number: u64) -> Given {
     let mut dice = Dice::new(seed.wrapping_mul(1 << 32) ^ number ^ (1 << 63));
+    let noise = ((number % BATCH) as u32) << 8;
     loop {
         let made = match number % FOREIGN {
-            0 => foreign(&mut dice, number / FOREIGN),
-            _ => set_by_hand(&mut dice),
+            0 => foreign(&mut dice, number / FOREIGN, noise),
+            _ => set_by_hand(&mut dice, noise),
         };
         if let Some(made) = made {
             return made;
@@ -147,17 +168,23 @@ fn told(number: u64, all: &[Given], text: &str) -> Option<String> {
     ))
 }
 
-/// Compares `count` states, adds to the tally, and prints what was compared. Whether there was no
-/// difference.
+/// The states of the file with this number: first those with wrong records, then any.
+fn file(seed: u64, number: u64, count: u64) -> Vec<Given> {
+    let Some(number) = number.checked_sub(1) else {
+        return records::all();
+    };
+    let numbers = number * BATCH..count.min((number + 1) * BATCH);
+    numbers.map(|number| given(seed, number)).collect()
+}
+
+/// Compares the states with wrong records and `count` others, adds to the tally, and prints what was
+/// compared. Whether there was no difference.
 pub fn compare(program: &Path, seed: u64, count: u64, tally: &mut Tally) -> bool {
     let mut differences = vec![];
     let (mut states, mut by_rust, mut by_rules) = (0, 0, 0);
-    for number in 0..count.div_ceil(BATCH) {
-        let numbers = number * BATCH..count.min((number + 1) * BATCH);
-        let all: Vec<Given> = numbers.map(|number| given(seed, number)).collect();
-        let words = all.iter().enumerate().flat_map(|(at, g)| {
-            words::encode_given(&g.state, &g.counters, &g.calls, (at as u32) << 8)
-        });
+    for number in 0..count.div_ceil(BATCH) + 1 {
+        let all = file(seed, number, count);
+        let words = all.iter().flat_map(Given::words);
         let bytes = words::bytes(&words.collect::<Vec<_>>());
         match printed(program, &bytes) {
             Ok(text) => differences.extend(told(number, &all, &text)),
@@ -172,35 +199,38 @@ pub fn compare(program: &Path, seed: u64, count: u64, tally: &mut Tally) -> bool
     }
     differences.iter().for_each(|told| println!("{told}"));
     let name = name(program);
-    println!("states: our program {name}, seed {seed}: {states} states given whole, {} calls on them, {by_rust} answered by the Rust, {by_rules} by document 01 alone; each of {CLAUSES} ways to be foreign", by_rust + by_rules);
+    println!("states: our program {name}, seed {seed}: {states} states given whole, {} calls on them, {by_rust} answered by the Rust, {by_rules} by the documents alone; each of {CLAUSES} ways to be foreign", by_rust + by_rules);
     println!("states: {} differences", differences.len());
     differences.is_empty() && states > 0
 }
 
 /// The text of a program that follows other rules.
-fn text_of(rules: Rules, all: &[Given]) -> String {
-    let mut text = String::new();
-    for g in all {
-        let mut host = host(rules, &g.state, &g.counters);
-        text += &words::given_line(&g.counters, &held(&g.state));
-        text.extend(g.calls.iter().map(|call| line_by(&mut host, call).1));
-    }
+fn text_of(rules: Rules, g: &Given) -> String {
+    let mut host = host(rules, &g.state, &g.counters);
+    let mut text = words::given_line(&g.counters, &held(&g.state));
+    text.extend(g.calls.iter().map(|call| line_by(&mut host, call).1));
     text
+}
+
+/// Whether the lines of a program that follows these rules are others in one of the states.
+fn noticed(rules: Rules, all: &[Given]) -> bool {
+    let other = |g: &Given| g.lines.concat() != text_of(rules, g);
+    all.iter().any(other)
 }
 
 /// Whether each of these wrong programs, which lists from build do not show, is noticed here, and the
 /// right one is not.
 pub fn slips(seed: u64, unseen: &[Variant]) -> bool {
-    let all: Vec<Given> = (0..16 * BATCH).map(|number| given(seed, number)).collect();
-    let noticed = |rules| first_other(all_lines(&all), &text_of(rules, &all)).is_some();
+    let files = (0..17).map(|number| file(seed, number, 16 * BATCH));
+    let all: Vec<Given> = files.flatten().collect();
     let mut missed = 0;
     for variant in unseen {
-        if !noticed(Rules::of(*variant)) {
+        if !noticed(Rules::of(*variant), &all) {
             println!("states: slips: NOT NOTICED: {}", variant.words());
             missed += 1;
         }
     }
-    if noticed(Rules::RIGHT) {
+    if noticed(Rules::RIGHT, &all) {
         println!("states: slips: the right text is refused");
         missed += 1;
     }

@@ -1,7 +1,7 @@
 //! The stored sample: lists of calls with the original's answers.
 use crate::lists::{self, Observed, Seen};
 use crate::tally::Tally;
-use crate::{plans, program};
+use crate::{plans, program, records};
 use generate::Dice;
 use model::{Laid, List, Rules};
 use oracle::Origin;
@@ -58,7 +58,8 @@ fn stored_words(list: &List, number: usize) -> Vec<u8> {
     words::bytes(&words::encode(list, noise))
 }
 
-/// Writes the sample to the folder. Whether the rules agree with it.
+/// Writes the sample to the folder, and behind it the states with wrong records. Whether the rules agree
+/// with it.
 pub fn store(folder: &Path, count: u64, seed: u64) -> bool {
     let (mut calls, mut answers, mut origins) = (vec![], String::new(), String::new());
     let mut tally = Tally::default();
@@ -75,6 +76,17 @@ pub fn store(folder: &Path, count: u64, seed: u64) -> bool {
         origins += &(letters + "\n");
         tally.lists += 1;
     }
+    for given in records::all() {
+        calls.extend(words::bytes(&given.words()));
+        answers.extend(given.lines);
+        origins.push(letter(given.origin));
+        origins.extend(given.answers.iter().map(|(_, origin)| letter(*origin)));
+        origins.push('\n');
+        for (answer, origin) in &given.answers {
+            tally.answer(answer, *origin);
+        }
+        tally.lists += 1;
+    }
     let files = [
         ("calls.words", &calls[..]),
         ("answers.txt", answers.as_bytes()),
@@ -84,8 +96,8 @@ pub fn store(folder: &Path, count: u64, seed: u64) -> bool {
     println!(
         "sample: seed {seed}, {} lists, {} lines, {} of them by the Rust, {bytes} bytes, {differ} differences",
         tally.lists,
-        tally.by_rust + tally.by_rules,
-        tally.by_rust
+        answers.lines().count(),
+        origins.matches('r').count()
     );
     println!("sample: refusals: {}", tally.refusals());
     differ == 0

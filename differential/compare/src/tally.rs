@@ -74,7 +74,7 @@ impl Tally {
         } = self;
         println!("compared: seed {seed}, {scenarios} scenarios, each as whole runs ({whole_runs}), as a list of calls ({lists}), with a build ({builds}) and a plan ({plans})");
         let calls = by_rust + by_rules;
-        println!("compared: {calls} calls, {by_rust} answered by the Rust, {by_rules} by document 01 alone");
+        println!("compared: {calls} calls, {by_rust} answered by the Rust, {by_rules} by the documents alone");
         println!("compared: refusals seen: {}", self.refusals());
     }
 }

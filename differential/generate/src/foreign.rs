@@ -1,10 +1,12 @@
 //! States that 11 refuses, each by one clause of its sentence.
 use crate::dice::Dice;
 use crate::lists::stored_list;
-use model::{Counters, Edge, Event, Host, Message, Payload, Rules, State, Stored, TOP};
+use model::{
+    with_record, Counters, Edge, Event, Host, Message, Payload, Rules, State, Stored, TOP,
+};
 
 /// How many clauses there are below.
-pub const CLAUSES: u64 = 21;
+pub const CLAUSES: u64 = 24;
 
 fn event(s: &State, destination: u32) -> Event {
     let message = Message {
@@ -44,7 +46,30 @@ fn edge(source: u32, destination: u32) -> Edge {
     }
 }
 
-/// Breaks one clause. The limits of counts and lengths, and ids, have several.
+/// What a record may wrongly have where a process's least inbound bound is this: one more, one less,
+/// another half, none at all and the largest tick.
+pub fn wrong_records(right: u128) -> Vec<u128> {
+    let (more, less) = (right.wrapping_add(1), right.wrapping_sub(1));
+    let wrong = [more, less, right ^ 1 << 64, right ^ 1 << 127, 0, TOP];
+    let mut wrong: Vec<u128> = wrong.into_iter().filter(|tick| *tick != right).collect();
+    wrong.sort_unstable();
+    wrong.dedup();
+    wrong
+}
+
+/// A process whose record is wrong, and what the record has: of the first, the last or any one.
+pub fn wrong_record(dice: &mut Dice, which: u64, inbound: &[u128]) -> Option<(usize, u128)> {
+    let last = inbound.len().checked_sub(1)?;
+    let p = match which {
+        0 => 0,
+        1 => last,
+        _ => dice.index(inbound.len()),
+    };
+    Some((p, dice.pick(&wrong_records(inbound[p]))))
+}
+
+/// Breaks one clause. The limits of counts and lengths, and ids, have several; the last three are
+/// A.2's. But for these, the record is that of the edges.
 fn break_clause(dice: &mut Dice, clause: u64, s: &mut State) {
     let n = s.n as u32;
     let strange = n + dice.below(2) as u32;
@@ -113,15 +138,22 @@ fn break_clause(dice: &mut Dice, clause: u64, s: &mut State) {
             s.running = true;
             s.stored = None;
         }
-        _ => {
+        20 => {
             hold_batch(s);
             s.running = dice.one_in(2);
             if s.running {
                 s.batch.push(s.batch[0]);
             }
         }
+        _ => {}
     }
     s.horizons.resize(s.n.min(64) as usize, 0);
+    let inbound = Rules::RIGHT.inbound_of(s.n, &s.edges);
+    let wrong = match clause {
+        21.. => wrong_record(dice, clause - 21, &inbound),
+        _ => None,
+    };
+    s.inbound = with_record(inbound, wrong);
 }
 
 /// A state that a list of calls left, with one clause broken; and its counters.

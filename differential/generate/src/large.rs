@@ -75,6 +75,7 @@ fn almost_numbered(dice: &mut Dice, setup: &Setup) -> Odd {
     Odd {
         bounds: setup.destinations.iter().map(|_| 4).collect(),
         horizons: setup.ids.iter().map(|_| 0).collect(),
+        record: None,
         next: MOST - MOST_PENDING as u64 - dice.below(3),
         gvt: 0,
         initial: true,

@@ -14,7 +14,7 @@ mod shape;
 mod whole;
 
 pub use dice::Dice;
-pub use foreign::{foreign, CLAUSES};
+pub use foreign::{foreign, wrong_records, CLAUSES};
 pub use lists::{list, stored_list};
 pub use plans::{any_plan, edge_plans, plan, plan_of, plans_beyond};
 pub use rehearsals::{rehearsals, Rehearsal};

@@ -1,6 +1,7 @@
 //! Lists of calls.
 use crate::calls::next_call;
 use crate::dice::Dice;
+use crate::foreign::wrong_record;
 use crate::large;
 use crate::odd::odd;
 use crate::setups::{any_setup, good_setup};
@@ -39,6 +40,14 @@ fn list_of(dice: &mut Dice, shape: &Shape, setup: Setup, odd: Option<Odd>, count
     list
 }
 
+/// A record that is wrong in one process.
+fn record(dice: &mut Dice, setup: &Setup, odd: &Odd) -> Option<(usize, u128)> {
+    let mut host = Host::build(Rules::RIGHT, setup).ok()?;
+    host.set(odd);
+    let which = dice.below(3);
+    wrong_record(dice, which, &host.state.inbound)
+}
+
 /// A list of calls, now and then from a state set by hand, a foreign one among these.
 pub fn list(dice: &mut Dice) -> List {
     if dice.one_in(250) {
@@ -54,6 +63,8 @@ pub fn list(dice: &mut Dice) -> List {
                 horizon: TOP,
                 budget,
             });
+        } else if dice.one_in(12) {
+            odd.record = record(dice, &setup, odd);
         }
     }
     let count = match dice.below(10) {

@@ -172,12 +172,14 @@ impl Rules {
     }
 
     /// "Once built, nothing is pending, initial events are open, no horizon is stored, no run is
-    /// open, and GVT, next sequence and every counter are 0".
+    /// open, and GVT, next sequence and every counter are 0". A.2's record is that of its edges.
     fn built(self, a: &Setup) -> State {
+        let edges = self.edges_of(a);
         State {
             n: a.n,
             lookahead: a.lookahead,
-            edges: self.edges_of(a),
+            inbound: self.inbound_of(a.n, &edges),
+            edges,
             pending: vec![],
             next: 0,
             horizons: a.expected().map(|_| 0).collect(),

@@ -1,5 +1,5 @@
-//! 11: "A foreign state has ..". One clause for each part of document 01's sentence, in its order
-//! (Foreign.antt).
+//! 11: "A foreign state has ..". One clause for each part of document 01's sentence, in its order, and
+//! one for A.2's (Foreign.antt).
 use crate::state::{
     Edge, Event, State, MOST_EDGES, MOST_PAYLOAD, MOST_PENDING, MOST_PROCESSES, TOP,
 };
@@ -53,6 +53,8 @@ impl Rules {
             || (s.running && s.stored.is_none())
             || (!s.batch.is_empty() && !s.running)
             || !s.batch.windows(2).all(by_process)
+            || self.wrong_record(s)
             || s.horizons.len() as u64 != s.n
+            || s.inbound.len() as u64 != s.n
     }
 }

@@ -174,15 +174,15 @@ impl Rules {
     fn commit(self, s: State, c: Counters, at: Stored, xs: &[Emission]) -> Out {
         let c = self.count_round(c, &s.batch, xs);
         let mut s = self.handled(s, xs);
-        let edges = s.edges.clone();
+        let inbound = s.inbound.clone();
         if self.spent(&s, at) {
             if self.wrong(Variant::RefreshBeforeSpent) {
-                s = self.refreshed(s, at.horizon, &edges);
+                s = self.refreshed(s, at.horizon, &inbound);
             }
             s.running = self.wrong(Variant::SpentKeepsRun);
             return Out::refuse(Refusal::EventBudgetExceeded(at.budget), s, c);
         }
-        let s = self.refreshed(s, at.horizon, &edges);
+        let s = self.refreshed(s, at.horizon, &inbound);
         Out::new(Answer::Committed(s.gvt), s, c)
     }
 

@@ -14,16 +14,28 @@ pub enum Reply {
 }
 
 /// Private fields set by hand after build, to reach states that a list of calls does not reach.
-/// Bounds are in the order of build's list.
+/// Bounds are in the order of build's list. A.2's record is that of these bounds, but for the process
+/// in `record`, if any: such a state is foreign, and the original cannot have it.
 #[derive(Clone, Debug, Eq, PartialEq)]
 pub struct Odd {
     pub bounds: Vec<u128>,
     pub horizons: Vec<u128>,
+    pub record: Option<(usize, u128)>,
     pub next: u64,
     pub gvt: u128,
     pub initial: bool,
     pub stored: Option<Stored>,
     pub counters: Counters,
+}
+
+/// The record with what is set by hand for one process, if anything is.
+pub fn with_record(mut inbound: Vec<u128>, record: Option<(usize, u128)>) -> Vec<u128> {
+    if let Some((p, to)) = record {
+        if let Some(tick) = inbound.get_mut(p) {
+            *tick = to;
+        }
+    }
+    inbound
 }
 
 /// A list of calls: a build, and the calls on what it made.
@@ -94,6 +106,8 @@ impl Host {
         for (edge, &bound) in self.state.edges.iter_mut().zip(&odd.bounds) {
             edge.bound = bound;
         }
+        let right = Rules::RIGHT.inbound_of(self.state.n, &self.state.edges);
+        self.state.inbound = with_record(right, odd.record);
         for (horizon, &to) in self.state.horizons.iter_mut().zip(&odd.horizons) {
             *horizon = to;
         }

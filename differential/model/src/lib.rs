@@ -25,7 +25,7 @@ pub use answers::{Answer, Entity, Reading, Refusal, Value};
 pub use build::{Made, Setup};
 pub use calls::{Call, Emission, Out};
 pub use hand_back::malformed;
-pub use host::{Host, List, Odd, Reply, Scenario, Task};
+pub use host::{with_record, Host, List, Odd, Reply, Scenario, Task};
 pub use plan::Laid;
 pub use state::{
     Counters, Edge, Event, Message, Payload, State, Stored, MOST, MOST_EDGES, MOST_ENTITIES,

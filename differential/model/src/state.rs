@@ -136,6 +136,8 @@ pub struct State {
     pub pending: Vec<Event>,
     pub next: u64,
     pub horizons: Vec<u128>,
+    /// A.2's record: "each process's least inbound bound".
+    pub inbound: Vec<u128>,
     pub gvt: u128,
     pub stored: Option<Stored>,
     pub used: u64,

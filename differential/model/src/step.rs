@@ -1,7 +1,6 @@
 //! Step: document 01, "Step and hand back", rows 11, 12, 23, 24 (Step.antt).
 use crate::answers::{Answer, Refusal};
 use crate::calls::Out;
-use crate::frontiers::safe;
 use crate::pending::{first_tick, without_first};
 use crate::refresh::exclusive;
 use crate::state::{Counters, Edge, Event, State, Stored, TOP};
@@ -11,11 +10,6 @@ use crate::variant::{Rules, Variant};
 struct Taken {
     events: Vec<Event>,
     left: Vec<Event>,
-}
-
-/// "local horizon h(p) .. rises to min(safe(p), first pending tick or H)"
-fn aim(s: &State, edges: &[Edge], h: u128, p: u32) -> u128 {
-    safe(edges, h, p).min(first_tick(&s.pending, p, h))
 }
 
 /// How many bounds of the second list are above those of the first.
@@ -37,6 +31,12 @@ pub fn poison(mut s: State) -> State {
 }
 
 impl Rules {
+    /// "local horizon h(p) .. rises to min(safe(p), first pending tick or H)"
+    fn aim(self, s: &State, inbound: &[u128], h: u128, p: u32) -> u128 {
+        let safe = self.safe(inbound, h, p);
+        safe.min(first_tick(&s.pending, p, h))
+    }
+
     /// The processes in the order in which events are taken: "in id order".
     fn taking_order(self, s: &State) -> Vec<u32> {
         let mut order: Vec<u32> = s.processes().collect();
@@ -60,7 +60,7 @@ impl Rules {
             left: s.pending.clone(),
         };
         for p in self.taking_order(s) {
-            if let Some(event) = self.eligible(&s.edges, h, &taken.left, p) {
+            if let Some(event) = self.eligible(&s.inbound, h, &taken.left, p) {
                 if taken.events.len() as u64 >= room {
                     break;
                 }
@@ -83,8 +83,8 @@ impl Rules {
 
     /// "each edge bound from s rises to min(H, min(safe(s), first pending tick or H) + L), or to H
     /// on overflow."
-    fn bound_to(self, s: &State, edges: &[Edge], h: u128, p: u32) -> u128 {
-        let aim = aim(s, edges, h, p);
+    fn bound_to(self, s: &State, inbound: &[u128], h: u128, p: u32) -> u128 {
+        let aim = self.aim(s, inbound, h, p);
         match aim.checked_add(s.lookahead) {
             None if self.wrong(Variant::OverflowWraps) => aim.wrapping_add(s.lookahead),
             None => h,
@@ -97,11 +97,10 @@ impl Rules {
     fn new_edges(self, s: &State, h: u128) -> Vec<Edge> {
         let mut edges = s.edges.clone();
         for at in 0..edges.len() {
-            let from = match self.variant() {
-                Variant::SafeReadLate => &edges,
-                _ => &s.edges,
-            };
-            let to = self.bound_to(s, from, h, edges[at].source);
+            let late = self.wrong(Variant::SafeReadLate);
+            let late = late.then(|| self.inbound_of(s.n, &edges));
+            let inbound = late.as_ref().unwrap_or(&s.inbound);
+            let to = self.bound_to(s, inbound, h, edges[at].source);
             edges[at].bound = match self.variant() {
                 Variant::BoundFalls => to,
                 _ => edges[at].bound.max(to),
@@ -113,8 +112,29 @@ impl Rules {
     fn new_horizons(self, s: &State, h: u128) -> Vec<u128> {
         let horizons = s.horizons.iter().zip(0..);
         horizons
-            .map(|(&horizon, p)| horizon.max(aim(s, &s.edges, h, p)))
+            .map(|(&horizon, p)| horizon.max(self.aim(s, &s.inbound, h, p)))
             .collect()
+    }
+
+    /// The record made anew, of the edges as they are now.
+    fn new_inbound(self, s: &State, edges: &[Edge]) -> Vec<u128> {
+        match self.variant() {
+            Variant::RecordNotUpdated => s.inbound.clone(),
+            Variant::RecordBeforeLastBound => {
+                let mut early = edges.to_vec();
+                if let (Some(to), Some(from)) = (early.last_mut(), s.edges.last()) {
+                    *to = *from;
+                }
+                self.inbound_of(s.n, &early)
+            }
+            Variant::RecordByFirstProcess => {
+                let mut inbound = s.inbound.clone();
+                let anew = self.inbound_of(s.n, edges).into_iter().take(1);
+                inbound.splice(..1, anew);
+                inbound
+            }
+            _ => self.inbound_of(s.n, edges),
+        }
     }
 
     /// "Each bound raised is one null message."
@@ -153,7 +173,9 @@ impl Rules {
             Variant::HorizonsAreNoAdvance => null_messages > 0,
             _ => null_messages > 0 || any_raised(&s.horizons, &horizons),
         };
-        let old = std::mem::replace(&mut s.edges, edges);
+        let inbound = self.new_inbound(&s, &edges);
+        let old = std::mem::replace(&mut s.inbound, inbound);
+        s.edges = edges;
         s.horizons = horizons;
         let mut s = self.refreshed(s, horizon, &old);
         if rose {

@@ -25,6 +25,6 @@ pub use whole::{run_whole, Ran, Whole};
 pub enum Origin {
     /// The original.
     Rust,
-    /// Document 01 alone: the original has no such call or refusal.
+    /// The documents alone: the original has no such call or refusal.
     Rules,
 }

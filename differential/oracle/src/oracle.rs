@@ -49,6 +49,7 @@ impl Oracle {
     pub fn set(&mut self, odd: &Odd) {
         view::set(&mut self.runtime, odd);
         self.beside.budget = odd.stored.map_or(0, |stored| stored.budget);
+        self.beside.record = odd.record;
     }
 
     pub fn state(&self) -> State {

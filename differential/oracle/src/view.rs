@@ -3,7 +3,7 @@ use crate::build::Runtime;
 use crate::convert::tick;
 use kairo_ecs_pdes::RemoteEvent;
 use kairo_ecs_types::SimTime;
-use model::{Counters, Edge, Event, Odd, Payload, State, Stored};
+use model::{with_record, Counters, Edge, Event, Odd, Payload, State, Stored, TOP};
 
 /// What the original keeps in local variables of its loop, or not at all.
 #[derive(Clone, Debug, Default)]
@@ -12,6 +12,8 @@ pub struct Beside {
     pub used: u64,
     pub batch: Vec<Event>,
     pub running: bool,
+    /// What A.2's record is said to have for one process, if that is wrong: then 11 comes before all else.
+    pub record: Option<(usize, u128)>,
 }
 
 /// The event as it is queued: the place in the queue and the event have to agree.
@@ -49,6 +51,13 @@ fn edges(runtime: &Runtime) -> Vec<Edge> {
         .collect()
 }
 
+/// A.2's record, which the original does not keep: its own frontiers of its own bounds with the largest
+/// tick as H, and so each process's least inbound bound, or the largest tick.
+fn inbound(runtime: &Runtime) -> Vec<u128> {
+    let safe = runtime.call_compute_safe_frontiers(tick(TOP));
+    safe.values().map(|safe| safe.ticks()).collect()
+}
+
 pub fn state(runtime: &Runtime, beside: &Beside) -> State {
     let horizons = runtime.inside_horizons();
     let stored = runtime.inside_last_horizon().map(|horizon| Stored {
@@ -62,6 +71,7 @@ pub fn state(runtime: &Runtime, beside: &Beside) -> State {
         pending: pending(runtime),
         next: runtime.inside_next_sequence(),
         horizons: horizons.iter().map(|h| h.ticks()).collect(),
+        inbound: with_record(inbound(runtime), beside.record),
         gvt: runtime.gvt().ticks(),
         stored,
         used: beside.used,

@@ -17,7 +17,7 @@ pub struct Tally {
     lines: u64,
     /// Runs of more than 60,000 rounds.
     long: u64,
-    /// Of each number, how many were given by the original and by document 01 alone.
+    /// Of each number, how many were given by the original and by the documents alone.
     numbers: BTreeMap<usize, [u64; 2]>,
 }
 
@@ -71,7 +71,7 @@ impl Tally {
         println!("plan files: seed {seed}: {files} files, {damaged} of them damaged, {lines} events listed, {long} runs of more than 60,000 rounds; {drivers} archives, {programs} programs");
         println!("plan files: numbers by the Rust: {}", self.given(0));
         println!(
-            "plan files: numbers by document 01 or 02 alone: {}",
+            "plan files: numbers by the documents alone: {}",
             self.given(1)
         );
         let unmet = MET.iter().filter(|number| !numbers.contains_key(number));

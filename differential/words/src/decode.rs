@@ -1,4 +1,5 @@
 //! Lists of calls from a file of words.
+use crate::encode::STATE;
 use model::{Call, Emission, Entity, List, Message, Payload, Setup};
 
 /// A list of more things than this is taken for something that cannot be decoded, and so are more
@@ -56,8 +57,10 @@ impl Words<'_> {
         })
     }
 
+    /// None for a state given whole: the original is asked about builds alone.
     fn setup(&mut self) -> Option<Setup> {
-        let (n, lookahead) = (self.word()?, self.wide()?);
+        let n = self.word().filter(|n| *n != STATE)?;
+        let lookahead = self.wide()?;
         let ids = self.many(Self::id)?;
         let rows = self.many(|words| Some((words.id()?, words.word()?)))?;
         let (sources, counts) = rows.into_iter().unzip();
@@ -104,7 +107,7 @@ impl Words<'_> {
     }
 }
 
-/// The lists of a file. "What cannot be decoded .. ends the file: the list at hand is carried out up
+/// The lists of a file, up to a state given whole. "What cannot be decoded .. ends the file: the list at hand is carried out up
 /// to the last whole call."
 pub fn decode(bytes: &[u8]) -> Vec<List> {
     let mut words = Words(bytes);

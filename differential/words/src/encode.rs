@@ -2,15 +2,16 @@
 use model::{Call, Counters, Emission, Entity, Event, List, Message, Payload, Setup, State};
 
 /// The process count that stands for a state given whole, in place of a build.
-const STATE: u64 = u64::MAX - 1;
+pub const STATE: u64 = u64::MAX - 1;
 
-/// How many edges, events, local horizons and events in hand there is room for.
+/// How many edges, pending events and processes there is room for. The table of the processes has the
+/// local horizons of so many, then their least inbound bounds.
 const EDGES: usize = 512;
 const PENDING: usize = 512;
 const PROCESSES: usize = 64;
 
-/// The words so far, and what stands where nothing counts: in the upper half of an id word, and in
-/// the payload bytes behind the length.
+/// The words so far, and what stands where nothing counts: in the upper half of an id word, in the
+/// payload bytes behind the length, and in a state's ticks of processes that there are not.
 struct Words {
     words: Vec<u64>,
     noise: u32,
@@ -153,8 +154,21 @@ impl Words {
             edges.map(|e| edge(([e.source, e.destination], e.bound))),
         );
         self.array(PENDING, s.pending.iter().map(event));
-        self.array(PROCESSES, s.horizons.iter().map(|&h| wide(h).to_vec()));
+        let processes = self.processes(s);
+        self.array(2 * PROCESSES, processes.iter().map(|&t| wide(t).to_vec()));
         self.array(PROCESSES, s.batch.iter().map(event));
+    }
+
+    /// The table of the processes, both parts filled up. Without noise, the end is not given.
+    fn processes(&self, s: &State) -> Vec<u128> {
+        let mut table = s.horizons.clone();
+        let nothing = u128::from(self.noise) << 64 | u128::from(self.noise);
+        table.resize(PROCESSES, nothing);
+        table.extend(&s.inbound);
+        if self.noise > 0 {
+            table.resize(2 * PROCESSES, nothing);
+        }
+        table
     }
 }
 

@@ -10,6 +10,7 @@ pub struct Line<'a> {
     pub edges: &'a str,
     pub pending: &'a str,
     pub horizons: &'a str,
+    pub inbound: &'a str,
     pub stored: &'a str,
     pub batch: &'a str,
     pub flags: &'a str,
@@ -44,7 +45,8 @@ impl<'a> Line<'a> {
     /// None if the line is no such line. It ends with its line feed.
     pub fn of(line: &'a str) -> Option<Self> {
         let fields: Vec<&str> = line.strip_suffix('\n')?.split(" | ").collect();
-        let [answer, counters, sizes, edges, pending, horizons, stored, batch, flags] = fields[..]
+        let [answer, counters, sizes, edges, pending, horizons, inbound, stored, batch, flags] =
+            fields[..]
         else {
             return None;
         };
@@ -55,6 +57,7 @@ impl<'a> Line<'a> {
             edges,
             pending,
             horizons,
+            inbound,
             stored,
             batch,
             flags,

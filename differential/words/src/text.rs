@@ -79,6 +79,10 @@ fn edges(s: &State) -> String {
     )
 }
 
+fn ticks(ticks: &[u128]) -> String {
+    joined(ticks.iter().map(|tick| format!("{tick:x}")))
+}
+
 fn stored(s: &State) -> String {
     s.stored.map_or("-".to_string(), |stored| {
         format!("{:x} {}", stored.horizon, stored.budget)
@@ -93,7 +97,7 @@ fn flags(s: &State) -> String {
         .collect()
 }
 
-/// What a line begins with, and then everything that document 01 compares after a call.
+/// What a line begins with, and then everything that document 01 compares after a call, and A.2's record.
 fn fields(first: String, c: &Counters, s: &State) -> String {
     let fields = [
         first,
@@ -101,7 +105,8 @@ fn fields(first: String, c: &Counters, s: &State) -> String {
         sizes(s),
         edges(s),
         events(&s.pending),
-        joined(s.horizons.iter().map(|h| format!("{h:x}"))),
+        ticks(&s.horizons),
+        ticks(&s.inbound),
         stored(s),
         events(&s.batch),
         flags(s),

@@ -87,6 +87,34 @@ fn a_plan_of_more_than_4096_entities_or_places_ends_the_file() {
     assert_eq!(read(&plan(0, 4097)), 1);
 }
 
+/// The third array of a state given whole: behind 24 words, the edges and no pending event.
+#[test]
+fn least_inbound_bounds_stand_from_word_128_on() {
+    let host = Host::build(Rules::RIGHT, &c3().setup).expect("C3 is built");
+    let mut state = host.state.clone();
+    (state.horizons, state.inbound) = (vec![5, 1 << 64], vec![(6 << 64) + 7, u128::MAX]);
+    let table = |noise: u32| {
+        let words = words::encode_given(&state, &host.counters, &[], noise);
+        let at = 24 + 1 + 4 * state.edges.len() + 1;
+        let end = at + 1 + words[at] as usize;
+        assert_eq!(words[end..], [0, 0], "no batch and no calls");
+        words[at + 1..end].to_vec()
+    };
+    let (plain, noisy) = (table(0), table(9));
+    assert_eq!(plain[..4], [0, 5, 1, 0]);
+    assert_eq!(plain[4..128], [0; 124]);
+    assert_eq!(plain[128..], [6, 7, u64::MAX, u64::MAX]);
+    assert_eq!(noisy.len(), 256);
+    assert_eq!(
+        (&noisy[4..128], &noisy[132..]),
+        (&[9; 124][..], &[9; 124][..])
+    );
+    assert_eq!(
+        (&noisy[..4], &noisy[128..132]),
+        (&plain[..4], &plain[128..])
+    );
+}
+
 #[test]
 fn a_line_is_read_as_it_was_written() {
     let list = c3();
@@ -109,7 +137,7 @@ fn a_line_is_read_as_it_was_written() {
     let line = words::Line::of(&text).expect("it is a line");
     assert_eq!(line.events(), Some(host.state.batch.clone()));
     assert_eq!((line.name(), line.gvt()), ("batch", Some(0xab)));
-    assert_eq!(line.flags, "010");
+    assert_eq!((line.inbound, line.flags), ("3 3", "010"));
     assert_eq!(words::Line::of(text.trim_end()), None);
     assert_eq!(words::Line::of(&text.replacen(" | ", " ", 1)), None);
 }

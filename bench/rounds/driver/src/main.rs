@@ -25,7 +25,7 @@ const LONG: u64 = 2000;
 const SHORT: u64 = 150;
 
 /// The arrays of a state by value.
-const STATE_WORDS: usize = 2048 + 4096 + 128 + 512;
+const STATE_WORDS: usize = 2048 + 4096 + 256 + 512;
 
 /// The scenario until so late that there are about so many rounds.
 fn lasting(scenario: &Scenario, rounds: u64) -> Scenario {
@@ -187,12 +187,13 @@ impl Worst {
     }
 }
 
-/// Issue 8's goals. What is to stay small is taken with a minus.
+/// The goals of issues 8 and 20. What is to stay small is taken with a minus.
 #[derive(Default)]
 struct Goals {
     threads: Worst,
     in_place: Worst,
     largest: Worst,
+    full: Worst,
     series: Worst,
     whole: Worst,
     over: Worst,
@@ -208,7 +209,9 @@ impl Goals {
         let shown = &self.series;
         shown.show("(iii) is at least as fast as (ii), in the two series", 1.0);
         let shown = &self.largest;
-        shown.show("(iii) is at least 10 times as fast as (ii)", 10.0);
+        shown.show("(iii) is at least 13 times as fast as (ii)", 13.0);
+        let shown = &self.full;
+        shown.show("(iii) is at least 9 times as fast as (ii)", 9.0);
         let shown = &self.over;
         shown.show("a call of (iv) is at most 8 copies over (iii)", -8.0);
         let shown = &self.whole;
@@ -255,8 +258,10 @@ fn show_table(table: &[Timed], copy: f64, goals: &mut Goals) {
         goals.in_place.take(t.ratio(1), given);
         goals.whole.take(-call / copy, given);
         goals.over.take(-over / copy, given);
-        if given.edges() == 512 && given.initial.len() == 256 {
-            goals.largest.take(t.ratio(1), given);
+        match (given.edges(), given.initial.len()) {
+            (512, 256) => goals.largest.take(t.ratio(1), given),
+            (512, 512) => goals.full.take(t.ratio(1), given),
+            _ => {}
         }
     }
 }

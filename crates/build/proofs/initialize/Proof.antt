@@ -1,16 +1,13 @@
 use borrow.Author.Needs.{needs}
-use Rattle.build.proofs.Initializing.{laid}
+use Rattle.build.proofs.Initializing.{few, table-words, edge-words, known, laid}
 use Rattle.build.proofs.initialize.Statement.{statement}
 use Rattle.build.proofs.initialize.Tie as tie
 
-write-edges-requires : tie.Need-write-edges-requires
-write-edges-requires c κs = search needs
-
-same-length : tie.Need-same-length
-same-length c = search needs
+record-inbound-requires : tie.Need-record-inbound-requires
+record-inbound-requires c κs = search (few, table-words, edge-words, known) depth 1
 
 returns : tie.Need-returns
 returns c = search laid depth 1
 
 pub initialize-spec : {M : Type 1} → statement M
-initialize-spec = tie.close (tie.spec write-edges-requires same-length returns)
+initialize-spec = tie.close (tie.spec (λ c κs. search needs) record-inbound-requires (λ c. search needs) (λ c. search needs) returns)

@@ -7,11 +7,11 @@ use Rattle.call_list.proofs.run_calls.Statement.{statement}
 use Rattle.call_list.proofs.run_calls.Tie as tie
 
 abbrev Inv-loop : tie.InvT-loop
-Inv-loop head₀ edges₀ pending₀ horizons₀ batch₀ words counters₀ at₀ calls₀ count₀ head edges pending horizons batch counters at calls count =
-    Running head₀ edges₀ pending₀ horizons₀ batch₀ words calls at count head counters edges pending horizons batch
+Inv-loop head₀ edges₀ pending₀ horizons₀ batch₀ words counters₀ at₀ calls₀ count₀ head edges pending processes batch counters at calls count =
+    Running head₀ edges₀ pending₀ horizons₀ batch₀ words calls at count head counters edges pending processes batch
 
 abbrev μ-loop : tie.MeasureT-loop
-μ-loop head₀ edges₀ pending₀ horizons₀ batch₀ words counters₀ at₀ calls₀ count₀ head edges pending horizons batch counters at calls count =
+μ-loop head₀ edges₀ pending₀ horizons₀ batch₀ words counters₀ at₀ calls₀ count₀ head edges pending processes batch counters at calls count =
     length words - at
 
 zero-counters-requires : tie.Need-zero-counters-requires Inv-loop μ-loop

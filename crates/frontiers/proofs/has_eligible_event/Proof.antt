@@ -1,15 +1,16 @@
 use borrow.Author.Needs.{needs}
 use Prim.Native.Nat.{_-_}
+use Rattle.types.specs.Value.{ticksOf}
 use Rattle.records.proofs.Passes.{Seeking, seeking-start}
 use Rattle.frontiers.proofs.Early.{early, late-passed, early-found, none-early}
 use Rattle.frontiers.proofs.has_eligible_event.Statement.{statement}
 use Rattle.frontiers.proofs.has_eligible_event.Tie as tie
 
 abbrev Inv-loop : tie.InvT-loop
-Inv-loop safe first n i₀ p = Seeking (λ x. x) (early safe first) n p
+Inv-loop processes first n top p₀ p = Seeking (λ x. x) (early (ticksOf top) processes first) n p
 
 abbrev μ-loop : tie.MeasureT-loop
-μ-loop safe first n i₀ p = n - p
+μ-loop processes first n top p₀ p = n - p
 
 loop-holds : tie.Need-loop-holds Inv-loop μ-loop
 loop-holds c = search seeking-start depth 1
@@ -30,7 +31,6 @@ has-eligible-event-spec =
     Inv-loop
     μ-loop
     loop-holds
-    (λ c. search needs)
     (λ c κs. search needs)
     (λ c. search needs)
     (λ c κs. search needs)

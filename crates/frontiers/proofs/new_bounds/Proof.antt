@@ -7,10 +7,10 @@ use Rattle.frontiers.proofs.new_bounds.Statement.{statement}
 use Rattle.frontiers.proofs.new_bounds.Tie as tie
 
 abbrev Inv-loop : tie.InvT-loop
-Inv-loop safe₀ first n lookahead top i₀ safe p = (length safe ≡ 128) × Bounding n (durationOf lookahead) (ticksOf top) first safe₀ p safe
+Inv-loop processes first₀ n lookahead top p₀ first p = (length first ≡ 128) × Bounding n (durationOf lookahead) (ticksOf top) processes first₀ p first
 
 abbrev μ-loop : tie.MeasureT-loop
-μ-loop safe₀ first n lookahead top i₀ safe p = p
+μ-loop processes first₀ n lookahead top p₀ first p = p
 
 loop-holds : tie.Need-loop-holds Inv-loop μ-loop
 loop-holds c = search (bounding-start, needs)
@@ -28,7 +28,6 @@ new-bounds-spec =
     Inv-loop
     μ-loop
     loop-holds
-    (λ c. search needs)
     (λ c. search needs)
     (λ c κs. search needs)
     (λ c. search needs)

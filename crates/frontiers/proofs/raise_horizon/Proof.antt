@@ -13,13 +13,12 @@ returns c =
     let tick = to .before .before in
     let front = tick .before in
     let start = front .before .before .before .before in
-    horizon-rises _ _ _ _ _ (start .args .found) _ _ _ _ _ _ _ _ (start .pre .0) (start .pre .1) (front .tick-in .ensures) (tick .tick-in2 .ensures) (to .min .ensures) (up .raise-tick .ensures) (now-at .tick-in3 .ensures) (low .min2 .ensures) (least .min3 .ensures) (c .either .ensures)
+    horizon-rises _ _ _ _ _ (start .args .found) _ _ _ _ _ _ _ _ (start .pre .0) (start .pre .1) (front .frontier .ensures) (tick .tick-in .ensures) (to .min .ensures) (up .raise-tick .ensures) (now-at .tick-in2 .ensures) (low .min2 .ensures) (least .min3 .ensures) (c .either .ensures)
 
 pub raise-horizon-spec : {M : Type 1} → statement M
 raise-horizon-spec =
     tie.close
     (tie.spec
-    (λ c. search needs)
     (λ c κs. search needs)
     (λ c. search needs)
     (λ c κs. search needs)

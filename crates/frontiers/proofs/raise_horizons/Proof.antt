@@ -7,10 +7,10 @@ use Rattle.frontiers.proofs.raise_horizons.Statement.{statement}
 use Rattle.frontiers.proofs.raise_horizons.Tie as tie
 
 abbrev Inv-loop : tie.InvT-loop
-Inv-loop horizons₀ n safe first r₀ left₀ horizons r left = (length horizons ≡ length horizons₀) × Rising n safe first (ticksOf (r₀ .tick)) horizons₀ left horizons r
+Inv-loop processes₀ n first top r₀ left₀ processes r left = (length processes ≡ 256) × Rising n first (ticksOf top) processes₀ left processes r
 
 abbrev μ-loop : tie.MeasureT-loop
-μ-loop horizons₀ n safe first r₀ left₀ horizons r left = left
+μ-loop processes₀ n first top r₀ left₀ processes r left = left
 
 loop-holds : tie.Need-loop-holds Inv-loop μ-loop
 loop-holds c = search (rising-start, needs)

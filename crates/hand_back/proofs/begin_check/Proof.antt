@@ -25,7 +25,7 @@ returns : tie.Need-returns
 returns c =
     let refused = c .before in
     let early = refused .before .before in
-    begins-refused _ _ _ _ (early .before .start .result) _ _ (early .refusal .result) (early .refusal .ensures) (refused .before .is-accepted .ensures .is-not (not-true _ (refused .if1 .taken))) _ (c .refuse .ensures)
+    begins-refused _ _ _ (early .before .start .result) _ (early .refusal .result) (early .refusal .ensures) (refused .before .is-accepted .ensures .is-not (not-true _ (refused .if1 .taken))) _ (c .refuse .ensures)
 
 find-places-requires : tie.Need-find-places-requires
 find-places-requires c κs = search needs
@@ -33,8 +33,8 @@ find-places-requires c κs = search needs
 failed-not-in-batch-requires : tie.Need-failed-not-in-batch-requires
 failed-not-in-batch-requires c κs =
     let early = c .before .before .before .before .before .before .before in
-    let start = early .before .before .before .before .before .before .before in
-    omega (arith, empty-length _ (start .pre .2))
+    let start = early .before .before .before .before .before in
+    omega (arith, empty-length _ (start .pre .3))
 
 refuse-requires-2 : tie.Need-refuse-requires-2
 refuse-requires-2 c κs = search needs
@@ -50,30 +50,22 @@ returns-2 c =
     let accepted = placed .before .before in
     let early = accepted .before .before in
     let passed = early .refusal .ensures .passed (accepted .before .is-accepted .ensures .is (not-false _ (accepted .if1 .left))) in
-    begins-unknown _ _ _ _ (early .before .start .result) _ _ passed (placed .find-places .ensures) _ (masked .failed-not-in-batch .ensures) (strange .if2 .taken) _ (c .refuse2 .ensures)
-
-find-routes-requires : tie.Need-find-routes-requires
-find-routes-requires c κs = search needs
+    begins-unknown _ _ _ (early .before .start .result) _ passed (placed .find-places .ensures) _ (masked .failed-not-in-batch .ensures) (strange .if2 .taken) _ (c .refuse2 .ensures)
 
 same-length-2 : tie.Need-same-length-2
 same-length-2 c = search needs
 
-same-length-3 : tie.Need-same-length-3
-same-length-3 c = search needs
-
 returns-3 : tie.Need-returns-3
 returns-3 c =
-    let routed = c .before .before in
-    let known = routed .before .before in
-    let masked = known .before in
+    let masked = c .before in
     let placed = masked .before .before .before .before in
     let accepted = placed .before .before in
     let early = accepted .before .before in
     let start = early .before in
     let failed = start .before in
-    let begin = failed .before .before .before .before .before in
+    let begin = failed .before .before .before in
     let passed = early .refusal .ensures .passed (accepted .before .is-accepted .ensures .is (not-false _ (accepted .if1 .left))) in
-    begins-started _ _ _ _ (start .start .result) _ _ passed (placed .find-places .ensures) _ (masked .failed-not-in-batch .ensures) (known .if2 .left) (failed .first-failed .result) (failed .first-failed .ensures) (start .start .ensures) (routed .find-routes .ensures) (omega (arith, empty-length _ (begin .pre .1))) (omega (arith, empty-length _ (begin .pre .2), masked .before .before .before .places .given))
+    begins-started _ _ _ (start .start .result) _ passed (placed .find-places .ensures) _ (masked .failed-not-in-batch .ensures) (c .if2 .left) (failed .first-failed .result) (failed .first-failed .ensures) (start .start .ensures) (omega (arith, empty-length _ (begin .pre .3), masked .before .before .before .places .given))
 
 pub begin-check-spec : {M : Type 1} → statement M
 begin-check-spec =
@@ -90,7 +82,5 @@ begin-check-spec =
     refuse-requires-2
     same-length
     returns-2
-    find-routes-requires
     same-length-2
-    same-length-3
     returns-3)

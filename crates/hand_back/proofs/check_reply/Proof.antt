@@ -1,43 +1,44 @@
+use mathlib.Core.Logic.{⊎-elim}
 use borrow.Author.Needs.{needs}
-use Rattle.hand_back.proofs.ReplyChecking.{begun, checks-reply, whole}
+use borrow.Author.Tests.{eqb-true}
+use Rattle.rules.proofs.Tests.{not-true}
+use Rattle.hand_back.proofs.ReplyChecking.{checks-stopped, checks-empty, begun, checks-reply, whole}
 use Rattle.hand_back.proofs.check_reply.Statement.{statement}
 use Rattle.hand_back.proofs.check_reply.Tie as tie
 
-slice-aggregate-begin-check : tie.Need-slice-aggregate-begin-check
-slice-aggregate-begin-check c = search needs
-
-slice-aggregate-begin-check-2 : tie.Need-slice-aggregate-begin-check-2
-slice-aggregate-begin-check-2 c = search needs
-
-begin-check-requires : tie.Need-begin-check-requires
-begin-check-requires c κs = search needs
-
-slice-aggregate-check-words : tie.Need-slice-aggregate-check-words
-slice-aggregate-check-words c = search needs
-
-slice-aggregate-check-words-2 : tie.Need-slice-aggregate-check-words-2
-slice-aggregate-check-words-2 c = search needs
+returns : tie.Need-returns
+returns c =
+    let begin = c .before .before .before in
+    let start = begin .before .before .before .before .before .before in
+    ⊎-elim
+    (λ w. checks-stopped (start .args .head) _ _ _ (start .args .mask) _ _ (begin .begin-check .ensures) _ (not-true _ (w .taken)))
+    (λ w. checks-empty (start .args .head) _ _ _ (start .args .mask) _ _ (begin .begin-check .ensures) (start .args .reply .now) (eqb-true _ 0 (w .1 .taken)))
+    (c .if1 .came)
 
 check-words-requires : tie.Need-check-words-requires
 check-words-requires c κs =
-    let begin = c .before .before .before .before in
-    let start = begin .before .before .before .before .before .before .before in
-    (begun (start .args .head) _ _ _ (start .args .mask) _ _ _ (start .pre .0) (start .pre .1) (start .pre .2) (begin .begin-check .ensures), whole (start .args .reply .now))
+    let routed = c .before .before .before in
+    let begin = routed .before .before .before .before .before .before in
+    let start = begin .before .before .before .before .before .before in
+    (begun (start .args .head) _ _ _ (start .args .mask) _ _ _ (start .pre .0) (start .pre .1) (start .pre .2) (search needs) (routed .find-routes .ensures) (begin .begin-check .ensures), whole (start .args .reply .now))
 
-returns : tie.Need-returns
-returns c =
-    let begin = c .before .before .before .before .before in
-    let start = begin .before .before .before .before .before .before .before in
-    checks-reply (start .args .head) _ _ _ (start .args .mask) _ _ _ (start .pre .0) (start .pre .1) (start .pre .2) (begin .begin-check .ensures) _ _ (c .check-words .ensures)
+returns-2 : tie.Need-returns-2
+returns-2 c =
+    let routed = c .before .before .before .before in
+    let begin = routed .before .before .before .before .before .before in
+    let start = begin .before .before .before .before .before .before in
+    checks-reply (start .args .head) _ _ _ (start .args .mask) _ _ _ (start .pre .0) (start .pre .1) (start .pre .2) (search needs) (routed .find-routes .ensures) (begin .begin-check .ensures) _ _ (c .check-words .ensures)
 
 pub check-reply-spec : {M : Type 1} → statement M
 check-reply-spec =
     tie.close
     (tie.spec
-    slice-aggregate-begin-check
-    slice-aggregate-begin-check-2
-    begin-check-requires
-    slice-aggregate-check-words
-    slice-aggregate-check-words-2
+    (λ c. search needs)
+    (λ c κs. search needs)
+    returns
+    (λ c. search needs)
+    (λ c κs. search needs)
+    (λ c. search needs)
+    (λ c. search needs)
     check-words-requires
-    returns)
+    returns-2)

@@ -1,7 +1,5 @@
 use borrow.Author.Needs.{needs}
-use Rattle.hand_back_emission.proofs.InHand.{findable}
-use Rattle.hand_back_commit.proofs.Ending.{endable}
-use Rattle.hand_back.proofs.ReplyChecking.{whole, enqueueable, committed, lost}
+use Rattle.hand_back.proofs.ReplyChecking.{whole, enqueueable, endable, committed, lost}
 use Rattle.hand_back.proofs.commit.Statement.{statement}
 use Rattle.hand_back.proofs.commit.Tie as tie
 
@@ -12,15 +10,15 @@ enqueue-words-requires : tie.Need-enqueue-words-requires
 enqueue-words-requires c κs =
     let sound = c .before in
     let final = sound .before in
-    let start = final .before .before .before .before .before .before in
-    (enqueueable (start .args .reply .now) (start .args .head) (start .args .counters) _ _ _ _ (start .args .check) (start .pre) (final .final-check .result) (final .final-check .ensures) (sound .if1 .taken), whole (start .args .reply .now))
+    let start = final .before .before .before .before .before in
+    (enqueueable (start .args .reply .now) (start .args .head) (start .args .counters) _ _ _ (start .args .check) (start .pre) (final .final-check .result) (final .final-check .ensures) (sound .if1 .taken), whole (start .args .reply .now))
 
 commit-round-requires : tie.Need-commit-round-requires
 commit-round-requires c κs =
     let sound = c .before .before .before .before .before .before .before in
     let final = sound .before in
-    let start = final .before .before .before .before .before .before in
-    endable (start .args .head) _ _ _ _ _ _ (start .pre) (final .final-check .ensures .passes (sound .if1 .taken) .1) (search needs)
+    let start = final .before .before .before .before .before in
+    endable (start .args .reply .now) (start .args .head) (start .args .counters) _ _ _ (start .args .check) (start .pre) (final .final-check .result) (final .final-check .ensures) (sound .if1 .taken) _ (search needs)
 
 same-length : tie.Need-same-length
 same-length c = search needs
@@ -37,13 +35,13 @@ returns c =
     let queued = end .before .before .before .before .before .before in
     let sound = queued .before .before in
     let final = sound .before in
-    let start = final .before .before .before .before .before .before in
-    committed (start .args .reply .now) (start .args .head) (start .args .counters) _ _ _ _ (start .args .check) (start .pre) (final .final-check .result) (final .final-check .ensures) (sound .if1 .taken) _ _ (queued .enqueue-words .ensures) _ _ _ (end .commit-round .ensures)
+    let start = final .before .before .before .before .before in
+    committed (start .args .reply .now) (start .args .head) (start .args .counters) _ _ _ (start .args .check) (start .pre) (final .final-check .result) (final .final-check .ensures) (sound .if1 .taken) _ _ (queued .enqueue-words .ensures) _ _ _ (end .commit-round .ensures)
 
 poison-requires : tie.Need-poison-requires
 poison-requires c κs =
-    let start = c .before .before .before .before .before .before .before .before in
-    findable (start .args .head) _ _ _ _ (start .pre .lent) .0
+    let start = c .before .before .before .before .before .before .before in
+    start .pre .batch-words
 
 same-length-4 : tie.Need-same-length-4
 same-length-4 c = search needs
@@ -53,8 +51,8 @@ returns-2 c =
     let lose = c .before .before in
     let unsound = lose .before .before in
     let final = unsound .before in
-    let start = final .before .before .before .before .before .before in
-    lost (start .args .reply .now) (start .args .head) (start .args .counters) _ _ _ _ (start .args .check) (start .pre) (final .final-check .result) (final .final-check .ensures) (unsound .if1 .left) _ _ (lose .poison .ensures)
+    let start = final .before .before .before .before .before in
+    lost (start .args .reply .now) (start .args .head) (start .args .counters) _ _ _ (start .args .check) (start .pre) (final .final-check .result) (final .final-check .ensures) (unsound .if1 .left) _ _ (lose .poison .ensures)
 
 pub commit-spec : {M : Type 1} → statement M
 commit-spec =

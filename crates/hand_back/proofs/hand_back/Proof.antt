@@ -1,13 +1,13 @@
 use borrow.Author.Needs.{needs}
 use Rattle.rules.proofs.Tests.{not-true, not-false}
-use Rattle.hand_back.proofs.ReplyChecking.{ready, in-hand, handed-as-given, handed-back}
+use Rattle.hand_back.proofs.ReplyChecking.{ready, can-commit, handed-as-given, handed-back}
 use Rattle.hand_back.proofs.hand_back.Statement.{statement}
 use Rattle.hand_back.proofs.hand_back.Tie as tie
 
 check-reply-requires : tie.Need-check-reply-requires
 check-reply-requires c κs =
     let start = c .before .before .before .before .before .before .before in
-    (ready (start .args .head) _ _ _ _ (start .pre), start .pre .horizon-words, start .pre .batch-words)
+    (ready (start .args .head) _ _ _ _ (start .pre), start .pre .process-words, start .pre .batch-words)
 
 as-given-requires : tie.Need-as-given-requires
 as-given-requires c κs = search needs
@@ -30,7 +30,7 @@ commit-requires c κs =
     let going = c .before .before .before in
     let check = going .before .before in
     let start = check .before .before .before .before .before .before .before .before in
-    in-hand (start .args .head) (start .args .counters) _ _ _ _ (start .args .mask) _ (start .pre) (check .check-reply .result) (check .check-reply .ensures) (not-false _ (going .if1 .left))
+    can-commit (start .args .head) (start .args .counters) _ _ _ _ (start .args .mask) _ (start .pre) (check .check-reply .result) (check .check-reply .ensures) (not-false _ (going .if1 .left))
 
 same-length-3 : tie.Need-same-length-3
 same-length-3 c = search needs

@@ -5,10 +5,10 @@ use Rattle.hand_back_check.proofs.check_words.Statement.{statement}
 use Rattle.hand_back_check.proofs.check_words.Tie as tie
 
 abbrev Inv-loop : tie.InvT-loop
-Inv-loop head routes places horizons batch reply count a₀ i₀ a i = Checking head routes places horizons batch a₀ reply count i a
+Inv-loop head routes places processes batch reply count a₀ i₀ a i = Checking head routes places processes batch a₀ reply count i a
 
 abbrev μ-loop : tie.MeasureT-loop
-μ-loop head routes places horizons batch reply count a₀ i₀ a i = count - i
+μ-loop head routes places processes batch reply count a₀ i₀ a i = count - i
 
 loop-holds : tie.Need-loop-holds Inv-loop μ-loop
 loop-holds c = search checking-start depth 1

@@ -12,8 +12,8 @@ handle-requires c κs = search needs
 end-round-requires : tie.Need-end-round-requires
 end-round-requires c κs =
     let handle = c .before .before .before in
-    let start = handle .before .before .before .before .before .before .before in
-    concludable (start .args .head) _ _ _ _ _ _ (start .pre) (handle .handle .result) (handle .handle .ensures)
+    let start = handle .before .before .before .before .before .before in
+    concludable (start .args .head) _ _ _ _ _ (start .pre) (handle .handle .result) (handle .handle .ensures)
 
 same-length : tie.Need-same-length
 same-length c = search needs
@@ -26,8 +26,8 @@ returns c =
     let conclude = c .before .before in
     let handle = conclude .before .before .before .before in
     let counted = handle .before .before in
-    let start = counted .before .before .before .before .before in
-    ended (start .args .head) (start .args .counters) _ _ _ _ _ _ (start .pre) (handle .handle .result) (handle .handle .ensures) (counted .count-round .result) (counted .count-round .ensures) _ _ (conclude .end-round .result) (conclude .end-round .ensures)
+    let start = counted .before .before .before .before in
+    ended (start .args .head) (start .args .counters) _ _ _ _ _ (start .pre) (handle .handle .result) (handle .handle .ensures) (counted .count-round .result) (counted .count-round .ensures) _ _ (conclude .end-round .result) (conclude .end-round .ensures)
 
 pub commit-round-spec : {M : Type 1} → statement M
 commit-round-spec =

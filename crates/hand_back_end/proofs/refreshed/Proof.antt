@@ -6,15 +6,13 @@ use Rattle.hand_back_end.proofs.refreshed.Tie as tie
 returns : tie.Need-returns
 returns c =
     let fresh = c .before .before .before in
-    let top = fresh .before .before in
-    let start = top .before .before .before .before .before in
-    refreshes (start .args .head) _ _ _ _ _ (fresh .refresh .result) (top .exclusive-horizon .ensures) (fresh .refresh .ensures)
+    let start = fresh .before .before .before .before in
+    refreshes (start .args .head) _ _ _ _ (fresh .refresh .result) (start .pre .1) (fresh .refresh .ensures)
 
 pub refreshed-spec : {M : Type 1} → statement M
 refreshed-spec =
     tie.close
     (tie.spec
-    (λ c κs. search needs)
     (λ c κs. search needs)
     (λ c. search needs)
     returns)

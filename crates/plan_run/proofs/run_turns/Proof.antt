@@ -11,10 +11,10 @@ use Rattle.plan_run.proofs.run_turns.Statement.{statement}
 use Rattle.plan_run.proofs.run_turns.Tie as tie
 
 abbrev Inv-loop : tie.InvT-loop
-Inv-loop edges₀ pending₀ horizons₀ batch₀ file table₀ reply₀ listing₀ t₀ edges pending horizons batch table reply listing t = Came file t edges pending horizons batch table reply listing × (length edges ≡ length edges₀) × (length pending ≡ length pending₀) × (length horizons ≡ length horizons₀) × (length batch ≡ length batch₀) × (length table ≡ length table₀) × (length reply ≡ length reply₀) × (length listing ≡ length listing₀)
+Inv-loop edges₀ pending₀ processes₀ batch₀ file table₀ reply₀ listing₀ t₀ edges pending processes batch table reply listing t = Came file t edges pending processes batch table reply listing × (length edges ≡ length edges₀) × (length pending ≡ length pending₀) × (length processes ≡ length processes₀) × (length batch ≡ length batch₀) × (length table ≡ length table₀) × (length reply ≡ length reply₀) × (length listing ≡ length listing₀)
 
 abbrev μ-loop : tie.MeasureT-loop
-μ-loop edges₀ pending₀ horizons₀ batch₀ file table₀ reply₀ listing₀ t₀ edges pending horizons batch table reply listing t = enough (planOf file) - t .calls
+μ-loop edges₀ pending₀ processes₀ batch₀ file table₀ reply₀ listing₀ t₀ edges pending processes batch table reply listing t = enough (planOf file) - t .calls
 
 -- src/lib.rt:114:5
 loop-holds : tie.Need-loop-holds Inv-loop μ-loop

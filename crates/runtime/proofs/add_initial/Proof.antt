@@ -19,7 +19,7 @@ slice-aggregate-add-initial c = search needs
 add-initial-requires : tie.Need-add-initial-requires
 add-initial-requires c κs =
     let going = c .before .before .before .before .before in
-    let given = going .before .before .before .before .before .before .before .before .before .before .args .t1 in
+    let given = going .before .before .before .before .before .before .before .before .before .before .before .before .args .t1 in
     (can-look given (foreign-is given _ _ (going .before .is-foreign .ensures) (going .if1 .left)) (search needs), can-queue given (foreign-is given _ _ (going .before .is-foreign .ensures) (going .if1 .left)) (search needs))
 
 returns-2 : tie.Need-returns-2

@@ -1,5 +1,5 @@
 use borrow.Author.Needs.{needs}
-use Rattle.runtime.proofs.Making.{can-write, accepted, refused}
+use Rattle.runtime.proofs.Making.{can-make, accepted, refused}
 use Rattle.runtime.proofs.build.Statement.{statement}
 use Rattle.runtime.proofs.build.Tie as tie
 
@@ -10,7 +10,7 @@ enum-told : tie.Need-enum-told
 enum-told c = search needs
 
 make-runtime-requires : tie.Need-make-runtime-requires
-make-runtime-requires c κs = search can-write depth 1
+make-runtime-requires c κs = search can-make depth 1
 
 returns : tie.Need-returns
 returns c = search accepted depth 1

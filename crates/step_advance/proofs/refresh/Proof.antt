@@ -8,7 +8,7 @@ returns c =
     let floor = c .before in
     let before = floor .before in
     let up = before .before .before .before .before .before in
-    refreshes _ _ _ _ _ _ _ (up .raise-horizons .result) _ _ _ (up .raise-horizons .ensures) (before .one-less .ensures) (floor .min .ensures) (c .max .ensures)
+    refreshes _ _ _ _ _ _ (up .raise-horizons .result) _ _ _ (up .raise-horizons .ensures) (before .one-less .ensures) (floor .min .ensures) (c .max .ensures)
 
 pub refresh-spec : {M : Type 1} → statement M
 refresh-spec =

@@ -1,6 +1,6 @@
 use native.Mathlib.Omega.{arith}
 use borrow.Author.Needs.{needs}
-use Rattle.step_batch.proofs.Turns.{owner, place, scanned-seen, scanned-stays, scanned-goes}
+use Rattle.step_batch.proofs.Turns.{owner, place, scanned-seen, scanned-kept, scanned-taken}
 use Rattle.step_batch.proofs.scan_event.Statement.{statement}
 use Rattle.step_batch.proofs.scan_event.Tie as tie
 
@@ -16,8 +16,8 @@ slice-read-to c = search needs
 keep-pending-requires : tie.Need-keep-pending-requires
 keep-pending-requires c κs = search needs
 
-add-t18 : tie.Need-add-t18
-add-t18 c = search needs
+add-t19 : tie.Need-add-t19
+add-t19 c = search needs
 
 same-length : tie.Need-same-length
 same-length c = search needs
@@ -28,7 +28,7 @@ returns c =
     let seen = kept .before .before in
     let known = seen .before in
     let start = known .before .before .before .before .before in
-    scanned-seen _ _ _ _ (start .args .s) (start .pre) _ (seen .if1 .taken) (kept .keep-pending .ensures)
+    scanned-seen _ _ _ _ (start .args .s) (start .pre) _ _ (seen .if1 .taken) (kept .keep-pending .ensures)
 
 mul-tick-in : tie.Need-mul-tick-in
 mul-tick-in c = search needs
@@ -59,7 +59,7 @@ mul-put-record c =
     let fresh = read .before .before in
     let known = fresh .before in
     let start = known .before .before .before .before .before in
-    let p = place _ _ _ _ (start .args .s) (start .pre) _ _ (fresh .if1 .left) (read .tick-in .ensures) (asked .is-taken .ensures) (taken .if2 .taken) in
+    let p = place _ _ _ _ (start .args .s) (start .pre) _ _ _ (fresh .if1 .left) (read .tick-in .ensures) (asked .is-taken .ensures) (taken .if2 .taken) in
     omega (arith, p .0)
 
 put-record-requires : tie.Need-put-record-requires
@@ -70,40 +70,40 @@ put-record-requires c κs =
     let fresh = read .before .before in
     let known = fresh .before in
     let start = known .before .before .before .before .before in
-    let p = place _ _ _ _ (start .args .s) (start .pre) _ _ (fresh .if1 .left) (read .tick-in .ensures) (asked .is-taken .ensures) (taken .if2 .taken) in
+    let p = place _ _ _ _ (start .args .s) (start .pre) _ _ _ (fresh .if1 .left) (read .tick-in .ensures) (asked .is-taken .ensures) (taken .if2 .taken) in
     omega (arith, p .0, start .pre .places)
 
-add-t24 : tie.Need-add-t24
-add-t24 c =
+add-t25 : tie.Need-add-t25
+add-t25 c =
     let taken = c .before .before .before .before .before .before in
     let asked = taken .before in
     let read = asked .before in
     let fresh = read .before .before in
     let known = fresh .before in
     let start = known .before .before .before .before .before in
-    let p = place _ _ _ _ (start .args .s) (start .pre) _ _ (fresh .if1 .left) (read .tick-in .ensures) (asked .is-taken .ensures) (taken .if2 .taken) in
+    let p = place _ _ _ _ (start .args .s) (start .pre) _ _ _ (fresh .if1 .left) (read .tick-in .ensures) (asked .is-taken .ensures) (taken .if2 .taken) in
     omega (arith, p .0)
 
-sub-t28 : tie.Need-sub-t28
-sub-t28 c =
+sub-t29 : tie.Need-sub-t29
+sub-t29 c =
     let taken = c .before .before .before .before .before .before .before in
     let asked = taken .before in
     let read = asked .before in
     let fresh = read .before .before in
     let known = fresh .before in
     let start = known .before .before .before .before .before in
-    let p = place _ _ _ _ (start .args .s) (start .pre) _ _ (fresh .if1 .left) (read .tick-in .ensures) (asked .is-taken .ensures) (taken .if2 .taken) in
+    let p = place _ _ _ _ (start .args .s) (start .pre) _ _ _ (fresh .if1 .left) (read .tick-in .ensures) (asked .is-taken .ensures) (taken .if2 .taken) in
     omega (arith, p .1)
 
-add-t29 : tie.Need-add-t29
-add-t29 c =
+add-t30 : tie.Need-add-t30
+add-t30 c =
     let taken = c .before .before .before .before .before .before .before in
     let asked = taken .before in
     let read = asked .before in
     let fresh = read .before .before in
     let known = fresh .before in
     let start = known .before .before .before .before .before in
-    let p = place _ _ _ _ (start .args .s) (start .pre) _ _ (fresh .if1 .left) (read .tick-in .ensures) (asked .is-taken .ensures) (taken .if2 .taken) in
+    let p = place _ _ _ _ (start .args .s) (start .pre) _ _ _ (fresh .if1 .left) (read .tick-in .ensures) (asked .is-taken .ensures) (taken .if2 .taken) in
     omega (arith, owner _ _ _ _ (start .args .s) (start .pre))
 
 same-length-2 : tie.Need-same-length-2
@@ -122,16 +122,16 @@ returns-2 c =
     let fresh = read .before .before in
     let known = fresh .before in
     let start = known .before .before .before .before .before in
-    scanned-goes _ _ _ _ (start .args .s) (start .pre) _ _ (fresh .if1 .left) (read .tick-in .ensures) (asked .is-taken .ensures) (taken .if2 .taken) _ _ (made .record-in .ensures) (put .put-record .ensures)
+    scanned-taken _ _ _ _ (start .args .s) (start .pre) _ _ _ (fresh .if1 .left) (read .tick-in .ensures) (asked .is-taken .ensures) (taken .if2 .taken) _ _ (made .record-in .ensures) (put .put-record .ensures)
 
 keep-pending-requires-2 : tie.Need-keep-pending-requires-2
 keep-pending-requires-2 c κs = search needs
 
-add-t10 : tie.Need-add-t10
-add-t10 c = search needs
+add-t11 : tie.Need-add-t11
+add-t11 c = search needs
 
-add-t13 : tie.Need-add-t13
-add-t13 c =
+add-t14 : tie.Need-add-t14
+add-t14 c =
     let known = c .before .before .before .before .before .before .before .before .before .before in
     let start = known .before .before .before .before .before in
     omega (arith, owner _ _ _ _ (start .args .s) (start .pre))
@@ -142,13 +142,13 @@ same-length-4 c = search needs
 returns-3 : tie.Need-returns-3
 returns-3 c =
     let kept = c .before .before .before in
-    let stays = kept .before .before in
-    let asked = stays .before in
+    let late = kept .before .before in
+    let asked = late .before in
     let read = asked .before in
     let fresh = read .before .before in
     let known = fresh .before in
     let start = known .before .before .before .before .before in
-    scanned-stays _ _ _ _ (start .args .s) (start .pre) _ _ (fresh .if1 .left) (read .tick-in .ensures) (asked .is-taken .ensures) _ (stays .if2 .left) (kept .keep-pending2 .ensures)
+    scanned-kept _ _ _ _ (start .args .s) (start .pre) _ _ _ (fresh .if1 .left) (read .tick-in .ensures) (asked .is-taken .ensures) _ (late .if2 .left) (kept .keep-pending2 .ensures)
 
 pub scan-event-spec : {M : Type 1} → statement M
 scan-event-spec =
@@ -158,7 +158,7 @@ scan-event-spec =
     mul-to-2
     slice-read-to
     keep-pending-requires
-    add-t18
+    add-t19
     same-length
     returns
     mul-tick-in
@@ -169,14 +169,14 @@ scan-event-spec =
     record-in-requires
     mul-put-record
     put-record-requires
-    add-t24
-    sub-t28
-    add-t29
+    add-t25
+    sub-t29
+    add-t30
     same-length-2
     same-length-3
     returns-2
     keep-pending-requires-2
-    add-t10
-    add-t13
+    add-t11
+    add-t14
     same-length-4
     returns-3)

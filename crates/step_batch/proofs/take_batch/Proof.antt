@@ -2,15 +2,17 @@ use borrow.Author.Needs.{needs}
 use Prim.Native.Nat.{_-_}
 use mathlib.Core.Path.{_≡_}
 use lib.ListN.{length}
+use Rattle.types.specs.Value.{ticksOf}
+use Rattle.inbound.specs.Inbound.{frontierIn}
 use Rattle.step_batch.proofs.Turns.{Scanning, scanning-start, scanning-more, scanning-end, scannable-at}
 use Rattle.step_batch.proofs.take_batch.Statement.{statement}
 use Rattle.step_batch.proofs.take_batch.Tie as tie
 
 abbrev Inv-loop : tie.InvT-loop
-Inv-loop pending₀ count safe room batch₀ s₀ i₀ pending batch s i = (length pending ≡ 4096) × (length batch ≡ 512) × Scanning count safe room pending₀ batch₀ pending batch (s .kept) (s .taken) (s .room) (s .seen) i
+Inv-loop pending₀ count processes top room batch₀ s₀ i₀ pending batch s i = (length pending ≡ 4096) × (length batch ≡ 512) × Scanning count (frontierIn processes (ticksOf top)) room pending₀ batch₀ pending batch (s .kept) (s .taken) (s .room) (s .seen) i
 
 abbrev μ-loop : tie.MeasureT-loop
-μ-loop pending₀ count safe room batch₀ s₀ i₀ pending batch s i = count - i
+μ-loop pending₀ count processes top room batch₀ s₀ i₀ pending batch s i = count - i
 
 loop-holds : tie.Need-loop-holds Inv-loop μ-loop
 loop-holds c = (search needs, search needs, scanning-start _ _ _ _ _)

@@ -1,13 +1,13 @@
 use borrow.Author.Needs.{needs}
-use Rattle.frontiers.proofs.Tables.{lower-yes}
-use Rattle.frontiers.proofs.lower_frontier.Statement.{statement}
-use Rattle.frontiers.proofs.lower_frontier.Tie as tie
+use Rattle.inbound.proofs.Recording.{lowered}
+use Rattle.inbound.proofs.lower.Statement.{statement}
+use Rattle.inbound.proofs.lower.Tie as tie
 
 returns : tie.Need-returns
-returns c = search lower-yes depth 1
+returns c = search lowered depth 1
 
-pub lower-frontier-spec : {M : Type 1} → statement M
-lower-frontier-spec =
+pub lower-spec : {M : Type 1} → statement M
+lower-spec =
     tie.close
     (tie.spec
     (λ c. search needs)
@@ -16,8 +16,9 @@ lower-frontier-spec =
     (λ c. search needs)
     (λ c. search needs)
     (λ c. search needs)
-    (λ c. search needs)
     (λ c κs. search needs)
+    (λ c. search needs)
+    (λ c. search needs)
     (λ c κs. search needs)
     (λ c. search needs)
     returns)
