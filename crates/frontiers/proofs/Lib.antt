@@ -3,6 +3,6 @@ pub mod Tables
 pub mod Capped
 pub mod RaisingBounds
 pub mod RaisingHorizons
-pub mod Bounds
+pub mod ReadingFrontiers
 pub mod Early
 pub mod Gathered

@@ -1,7 +1,7 @@
--- Bounds rise, from the last edge to the first.
+-- Bounds are written, from the last edge to the first.
 use mathlib.Core.Path.{_≡_, refl, sym, ap, _∙_}
 use mathlib.Core.Bool.{Bool, true, false}
-use mathlib.Core.List.{List, [], _∷_}
+use mathlib.Core.List.{List, []}
 use Prim.Native.Nat.{ℕ, zero, suc, _+_, _-_, _*_, _≤_, _<_, max}
 use native.Mathlib.Nat.{add-comm}
 use native.Mathlib.Omega.{arith}
@@ -17,11 +17,15 @@ use Rattle.records.specs.Records.{edgeAt, edgesOf}
 use Rattle.records.proofs.Stored.{bound-same, bound-other}
 use Rattle.rules.specs.Base.{if_then_else_}
 use Rattle.rules.specs.State.{Edge, State}
-use Rattle.rules.specs.Step.{raisedEdges, countRaised}
+use Rattle.rules.specs.Step.{newBound, raisedEdges, countRaised, newEdges, nullMessagesOf}
+use Rattle.rules.specs.InPlace.{withEdges, raiseBounds}
 use Rattle.rules.proofs.Tests.{by-test, not-both}
+use Rattle.rules.proofs.InPlace.{raised-at-once}
 use Rattle.inbound.specs.Inbound.{LowersInbound, RecordsInbound, Destinations}
 use Rattle.inbound.proofs.Recording.{Recording, recording-start, recording-more, recording-end}
-use Rattle.frontiers.specs.Rises.{raisedEdge, RaisedEdge, Bounds, RaisedEdges, RaisesBounds, Sources}
+use Rattle.frontiers.specs.Tables.{FrontierTable, capped}
+use Rattle.frontiers.specs.Rises.{raisedEdge, RaisedEdge, RaisesInPlace, RaisesBounds, Sources}
+use Rattle.frontiers.specs.InputFrontiers.{ReadsFrontiers}
 
 abbrev oneIf : Bool → ℕ
 oneIf b = if b then 1 else 0
@@ -47,25 +51,25 @@ edge-bound : (w : List ℕ) (i : ℕ) → edgeAt w i .bound ≡ tickAt w (4 * i 
 unfolding edgeAt
 edge-bound w i = refl
 
-module _ (w bounds : List ℕ) (i : ℕ) (to : SimTime) (et : ticksOf to ≡ tickAt bounds (2 * getD w (4 * i) 0)) where
-  target : ticksOf to ≡ tickOf bounds (edgeAt w i .source)
-  target = et ∙ ap (λ (x : ℕ). tickAt bounds (2 * x)) (sym (edge-from w i))
+module _ (w table : List ℕ) (i L H : ℕ) (front to : SimTime) (ef : ticksOf front ≡ tickAt table (2 * getD w (4 * i) 0)) (et : ticksOf to ≡ capped H L (ticksOf front)) where
+  target : ticksOf to ≡ capped H L (tickOf table (edgeAt w i .source))
+  target = et ∙ ap (capped H L) (ef ∙ ap (λ (x : ℕ). tickAt table (2 * x)) (sym (edge-from w i)))
 
-  edge-up : 4 * i + 4 ≤ length w → edgeAt w i .bound < ticksOf to → RaisedEdge i bounds w (putTick w (4 * i + 2) to) 1
+  edge-up : 4 * i + 4 ≤ length w → edgeAt w i .bound < ticksOf to → RaisedEdge i L H table w (putTick w (4 * i + 2) to) 1
   unfolding raisedEdge
   edge-up l h =
       let same : edgeAt (putTick w (4 * i + 2) to) i ≡ record { source = edgeAt w i .source; destination = edgeAt w i .destination; bound = ticksOf to } = bound-same w i to l in
-      let goal : ticksOf to ≡ max (edgeAt w i .bound) (tickOf bounds (edgeAt w i .source)) = omega (arith, target) in
+      let goal : ticksOf to ≡ max (edgeAt w i .bound) (capped H L (tickOf table (edgeAt w i .source))) = omega (arith, target) in
       record {
         here = same ∙ (λ j. record { source = edgeAt w i .source; destination = edgeAt w i .destination; bound = goal j });
         others = λ k ne. bound-other w i k to ne;
         counted = one-true _ (ap (λ (e : Edge). ltb (edgeAt w i .bound) (e .bound)) same ∙ lt-ltb (edgeAt w i .bound) (ticksOf to) h);
       }
 
-  edge-kept : ticksOf to ≤ edgeAt w i .bound → RaisedEdge i bounds w w 0
+  edge-kept : ticksOf to ≤ edgeAt w i .bound → RaisedEdge i L H table w w 0
   unfolding raisedEdge
   edge-kept h =
-      let goal : edgeAt w i .bound ≡ max (edgeAt w i .bound) (tickOf bounds (edgeAt w i .source)) = omega (arith, target) in
+      let goal : edgeAt w i .bound ≡ max (edgeAt w i .bound) (capped H L (tickOf table (edgeAt w i .source))) = omega (arith, target) in
       record {
         here = λ j. record { source = edgeAt w i .source; destination = edgeAt w i .destination; bound = goal j };
         others = λ k ne. refl;
@@ -73,32 +77,37 @@ module _ (w bounds : List ℕ) (i : ℕ) (to : SimTime) (et : ticksOf to ≡ tic
       }
 
   module _ (u : List ℕ) (r : Bool) (l : 4 * i + 4 ≤ length w) (s : RaisesTick w (4 * i + 2) to u r) where
-    pub edge-rises : r ≡ true → RaisedEdge i bounds w u 1
-    edge-rises = by-rise w (4 * i + 2) to u r s (λ v b. b ≡ true → RaisedEdge i bounds w v 1) (λ h _. edge-up l (rw (edge-bound w i) h)) (λ h e. not-both e refl)
+    pub edge-rises : r ≡ true → RaisedEdge i L H table w u 1
+    edge-rises = by-rise w (4 * i + 2) to u r s (λ v b. b ≡ true → RaisedEdge i L H table w v 1) (λ h _. edge-up l (rw (edge-bound w i) h)) (λ h e. not-both e refl)
 
-    pub edge-stays : r ≡ false → RaisedEdge i bounds w u 0
-    edge-stays = by-rise w (4 * i + 2) to u r s (λ v b. b ≡ false → RaisedEdge i bounds w v 0) (λ h e. not-both refl e) (λ h _. edge-kept (rw (edge-bound w i) h))
+    pub edge-stays : r ≡ false → RaisedEdge i L H table w u 0
+    edge-stays = by-rise w (4 * i + 2) to u r s (λ v b. b ≡ false → RaisedEdge i L H table w v 0) (λ h e. not-both refl e) (λ h _. edge-kept (rw (edge-bound w i) h))
 
 one-most : (b : Bool) → oneIf b ≤ 1
 one-most b = by-test (λ (x : ℕ). x ≤ 1) (λ e. omega arith) (λ e. omega arith)
 
-pub edge-most : (i : ℕ) (bounds w u : List ℕ) (r : ℕ) → RaisedEdge i bounds w u r → r ≤ 1
-edge-most i bounds w u r l = rw (l .counted) (one-most _)
+pub edge-most : (i L H : ℕ) (table w u : List ℕ) (r : ℕ) → RaisedEdge i L H table w u r → r ≤ 1
+edge-most i L H table w u r l = rw (l .counted) (one-most _)
 
 count-step : (f g : ℕ → Edge) (i m : ℕ) → 0 < i → i ≤ m → countRaised (tab f (i - 1) (m - (i - 1))) (tab g (i - 1) (m - (i - 1))) ≡ (if ltb (f (i - 1) .bound) (g (i - 1) .bound) then 1 else 0) + countRaised (tab f i (m - i)) (tab g i (m - i))
 unfolding countRaised
 count-step f g i m h l = rw (tab-step f i m h l, tab-step g i m h l)
 
-edges-tab : (n : ℕ) (s : State) (H : ℕ) (bounds : List ℕ) → Bounds n s H bounds → (f : ℕ → Edge) (i m : ℕ) → ((k : ℕ) → i ≤ k → k < i + m → f k .source < n) → raisedEdges s H (tab f i m) ≡ tab (λ k. raisedEdge bounds (f k)) i m
-unfolding Bounds raisedEdges tab raisedEdge
-edges-tab n s H bounds a f i zero h = refl
-edges-tab n s H bounds a f i (suc m) h =
-    rw (a (f i .source) (h i (omega arith) (omega arith)), edges-tab n s H bounds a f (suc i) m (λ k x y. h k (omega arith) (omega arith)))
+-- What the table says of an edge is what the rules say, where it has the input frontiers of the state.
+module _ (n : ℕ) (s : State) (L H : ℕ) (table : List ℕ) (look : s .lookahead ≡ L) (front : FrontierTable n s H table) where
+  bound-is : (p : ℕ) → p < n → newBound s H p ≡ capped H L (tickOf table p)
+  unfolding FrontierTable newBound capped
+  bound-is p h = rw (front p h, ← look)
+
+  edges-tab : (f : ℕ → Edge) (i m : ℕ) → ((k : ℕ) → i ≤ k → k < i + m → f k .source < n) → raisedEdges s H (tab f i m) ≡ tab (λ k. raisedEdge L H table (f k)) i m
+  unfolding raisedEdges tab raisedEdge
+  edges-tab f i zero h = refl
+  edges-tab f i (suc m) h = rw (bound-is (f i .source) (h i (omega arith) (omega arith)), edges-tab f (suc i) m (λ k x y. h k (omega arith) (omega arith)))
 
 -- The bounds of the first m edges rise, from the last to the first: those from i on are raised.
-module _ (m : ℕ) (bounds w₀ : List ℕ) where
+module _ (m L H : ℕ) (table w₀ : List ℕ) where
   abbrev pub liftedAt : ℕ → Edge → Edge
-  liftedAt k e = raisedEdge bounds e
+  liftedAt k e = raisedEdge L H table e
 
   pub record Lifting (i : ℕ) (w : List ℕ) (r : ℕ) : Type 0 where
     pub within : i ≤ m
@@ -115,61 +124,69 @@ module _ (m : ℕ) (bounds w₀ : List ℕ) where
     counted = rw (tab-none (edgeAt w₀) m m (omega arith));
   }
 
-  pub source-at : (i : ℕ) (w : List ℕ) (r : ℕ) → 0 < i → Lifting i w r → Sources 64 m w₀ → getD w (4 * (i - 1)) 0 < 64
+  pub source-at : (n i : ℕ) (w : List ℕ) (r : ℕ) → n ≤ 64 → 0 < i → Lifting i w r → Sources n m w₀ → getD w (4 * (i - 1)) 0 < 64
   unfolding Sources
-  source-at i w r h f s =
+  source-at n i w r few h f s =
       let e : edgeAt w (i - 1) .source ≡ edgeAt w₀ (i - 1) .source = ap (λ (x : Edge). x .source) (f .pass .ahead (i - 1) (omega arith)) in
-      rw (← edge-from w (i - 1), e) (s (i - 1) (omega (arith, f .within)))
+      let k : edgeAt w₀ (i - 1) .source < n = s (i - 1) (omega (arith, f .within)) in
+      rw (← edge-from w (i - 1), e) (omega arith)
 
-  pub lifting-more : (i : ℕ) (w u : List ℕ) (r q : ℕ) → 0 < i → Lifting i w r → RaisedEdge (i - 1) bounds w u q → Lifting (i - 1) u (r + q)
+  pub lifting-more : (i : ℕ) (w u : List ℕ) (r q : ℕ) → 0 < i → Lifting i w r → RaisedEdge (i - 1) L H table w u q → Lifting (i - 1) u (r + q)
   lifting-more i w u r q h f l =
       let same : tab (edgeAt u) i (m - i) ≡ tab (edgeAt w) i (m - i) = tab-cong _ _ i (m - i) (λ k x y. l .others k (λ z. omega arith)) in
       let e : edgeAt w (i - 1) ≡ edgeAt w₀ (i - 1) = f .pass .ahead (i - 1) (omega arith) in
       record {
         within = omega (arith, f .within);
-        room = omega (arith, f .room, edge-most (i - 1) bounds w u q l);
+        room = omega (arith, f .room, edge-most (i - 1) L H table w u q l);
         pass = pass-more edgeAt liftedAt m i w₀ w u h (f .pass) (l .here) (l .others);
         counted = add-comm r q ∙ rw (f .counted, l .counted, e, ← same) (sym (count-step (edgeAt w₀) (edgeAt u) i m h (f .within)));
       }
 
-  pub lifting-end : (i : ℕ) (w : List ℕ) (r : ℕ) → i ≤ 0 → Lifting i w r → RaisedEdges m bounds w₀ w r
-  unfolding Sources
-  lifting-end i w r o f =
-      let z : i ≡ 0 = omega arith in
-      record {
-        edges = λ n s H c a. pass-end edgeAt liftedAt m i w₀ w z (f .pass) ∙ sym (edges-tab n s H bounds a (edgeAt w₀) 0 m (λ k x y. c k (omega arith)));
-        counted = f .counted ∙ rw (tab-whole (edgeAt w₀) i m z, tab-whole (edgeAt w) i m z);
-      }
+  -- The edges have risen all at once: so they have one by one.
+  module _ (i : ℕ) (w : List ℕ) (r : ℕ) (z : i ≡ 0) (f : Lifting i w r) (n : ℕ) (s : State) (own : s .edges ≡ edgesOf m w₀) (look : s .lookahead ≡ L) (c : Sources n m w₀) (front : FrontierTable n s H table) where
+    edges-risen : newEdges s H ≡ edgesOf m w
+    unfolding Sources
+    edges-risen = ap (raisedEdges s H) own ∙ edges-tab n s L H table look front (edgeAt w₀) 0 m (λ k x y. c k (omega arith)) ∙ sym (pass-end edgeAt liftedAt m i w₀ w z (f .pass))
+
+    risen-counted : nullMessagesOf s H ≡ r
+    risen-counted = (λ j. countRaised (own j) (edges-risen j)) ∙ sym (f .counted ∙ rw (tab-whole (edgeAt w₀) i m z, tab-whole (edgeAt w) i m z))
+
+    risen : raiseBounds s H ≡ record { now = withEdges s (edgesOf m w); raised = r }
+    risen = raised-at-once s H ∙ (λ j. record { now = withEdges s (edges-risen j); raised = risen-counted j })
+
+  pub lifting-end : (n : ℕ) (first processes : List ℕ) (i : ℕ) (w : List ℕ) (r : ℕ) → i ≤ 0 → Sources n m w₀ → ReadsFrontiers n H processes first table → Lifting i w r → RaisesInPlace m n L H first processes w₀ w r
+  unfolding RaisesInPlace ReadsFrontiers
+  lifting-end n first processes i w r o c front f s own look kept firsts = risen i w r (omega arith) f n s own look c (front s kept firsts)
 
 -- Each edge goes on record when its bound is raised: the record is that of the raised edges.
-module _ (m n : ℕ) (bounds w₀ p₀ : List ℕ) where
+module _ (m n L H : ℕ) (table w₀ p₀ : List ℕ) where
   pub record Raising (i : ℕ) (w p : List ℕ) (r : ℕ) : Type 0 where
-    pub lifting : Lifting m bounds w₀ i w r
+    pub lifting : Lifting m L H table w₀ i w r
     pub recording : Recording w m n p₀ i p
 
   pub raising-start : (v : List ℕ) → RecordsInbound n [] v p₀ → Raising m w₀ p₀ 0
-  raising-start v q = record { lifting = lifting-start m bounds w₀; recording = recording-start w₀ m n p₀ v q }
+  raising-start v q = record { lifting = lifting-start m L H table w₀; recording = recording-start w₀ m n p₀ v q }
 
   -- Raising one edge leaves those behind it on record.
-  still-recorded : (i : ℕ) (w u p : List ℕ) (q : ℕ) → 0 < i → Recording w m n p₀ i p → RaisedEdge (i - 1) bounds w u q → Recording u m n p₀ i p
+  still-recorded : (i : ℕ) (w u p : List ℕ) (q : ℕ) → 0 < i → Recording w m n p₀ i p → RaisedEdge (i - 1) L H table w u q → Recording u m n p₀ i p
   still-recorded i w u p q h r l =
       let same : tab (edgeAt u) i (m - i) ≡ tab (edgeAt w) i (m - i) = tab-cong _ _ i (m - i) (λ k x y. l .others k (λ z. omega arith)) in
       record { within = r .within; records = rw same (r .records) }
 
-  pub raising-more : (i : ℕ) (w u p v : List ℕ) (r q : ℕ) → 0 < i → Raising i w p r → RaisedEdge (i - 1) bounds w u q → LowersInbound (edgeAt u (i - 1)) p v → Raising (i - 1) u v (r + q)
+  pub raising-more : (i : ℕ) (w u p v : List ℕ) (r q : ℕ) → 0 < i → Raising i w p r → RaisedEdge (i - 1) L H table w u q → LowersInbound (edgeAt u (i - 1)) p v → Raising (i - 1) u v (r + q)
   raising-more i w u p v r q h f l s = record {
-    lifting = lifting-more m bounds w₀ i w u r q h (f .lifting) l;
+    lifting = lifting-more m L H table w₀ i w u r q h (f .lifting) l;
     recording = recording-more u m n p₀ i p v h (still-recorded i w u p q h (f .recording) l) s;
   }
 
-  pub raising-end : (v : List ℕ) (i : ℕ) (w p : List ℕ) (r : ℕ) → i ≤ 0 → RecordsInbound n [] v p₀ → Raising i w p r → RaisesBounds m n bounds w₀ v w p r
-  raising-end v i w p r o q f = record { raised = lifting-end m bounds w₀ i w r o (f .lifting); recorded = recording-end w m n p₀ v i p o q (f .recording) }
+  pub raising-end : (first v : List ℕ) (i : ℕ) (w p : List ℕ) (r : ℕ) → i ≤ 0 → Sources n m w₀ → ReadsFrontiers n H v first table → RecordsInbound n [] v p₀ → Raising i w p r → RaisesBounds m n L H first w₀ v w p r
+  raising-end first v i w p r o c front q f = record { in-place = lifting-end m L H table w₀ n first v i w r o c front (f .lifting); recorded = recording-end w m n p₀ v i p o q (f .recording) }
 
-  pub source-of : (i : ℕ) (w p : List ℕ) (r : ℕ) → 0 < i → Raising i w p r → Sources 64 m w₀ → getD w (4 * (i - 1)) 0 < 64
-  source-of i w p r h f s = source-at m bounds w₀ i w r h (f .lifting) s
+  pub source-of : (i : ℕ) (w p : List ℕ) (r : ℕ) → n ≤ 64 → 0 < i → Raising i w p r → Sources n m w₀ → getD w (4 * (i - 1)) 0 < 64
+  source-of i w p r few h f s = source-at m L H table w₀ n i w r few h (f .lifting) s
 
   -- The edge that was just raised leads where it led.
-  pub destination-of : (i : ℕ) (w u p : List ℕ) (r q : ℕ) → 0 < i → Raising i w p r → RaisedEdge (i - 1) bounds w u q → Destinations 64 m w₀ → getD u (4 * (i - 1) + 1) 0 < 64
+  pub destination-of : (i : ℕ) (w u p : List ℕ) (r q : ℕ) → 0 < i → Raising i w p r → RaisedEdge (i - 1) L H table w u q → Destinations 64 m w₀ → getD u (4 * (i - 1) + 1) 0 < 64
   unfolding Destinations raisedEdge
   destination-of i w u p r q h f l d =
       let a : edgeAt u (i - 1) .destination ≡ edgeAt w (i - 1) .destination = ap (λ (x : Edge). x .destination) (l .here) in

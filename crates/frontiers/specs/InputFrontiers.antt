@@ -13,8 +13,7 @@ use Rattle.rules.specs.Frontiers.{anyEligible}
 use Rattle.rules.specs.Refresh.{least, raised}
 use Rattle.rules.specs.Step.{anyRaised}
 use Rattle.inbound.specs.Inbound.{frontierIn}
-use Rattle.frontiers.specs.Tables.{FirstTicks}
-use Rattle.frontiers.specs.Rises.{Bounds}
+use Rattle.frontiers.specs.Tables.{FirstTicks, FrontierTable}
 use Rattle.frontiers.specs.declared.Raised.{Raised}
 
 -- "min(safe(p), first pending tick or H)".
@@ -37,9 +36,9 @@ pub record RaisedHorizons (n : ℕ) (f : List ℕ) (H : ℕ) (w u : List ℕ) (r
   pub tick : ticksOf (r .tick) ≡ least H (ticksIn n f)
   pub horizon : ticksOf (r .horizon) ≡ least H (horizonsOf n u)
 
--- With the record and the first ticks of a state, and its lookahead, u is its table of new bounds.
-unfoldable pub NewBounds : ℕ → ℕ → ℕ → List ℕ → List ℕ → List ℕ → Type 0
-NewBounds n L H w f u = (s : State) → s .lookahead ≡ L → s .inbound ≡ inboundsOf n w → FirstTicks n (s .pending) H f → Bounds n s H u
+-- With the record and the first ticks of a state, u is its table of input frontiers.
+unfoldable pub ReadsFrontiers : ℕ → ℕ → List ℕ → List ℕ → List ℕ → Type 0
+ReadsFrontiers n H w f u = (s : State) → s .inbound ≡ inboundsOf n w → FirstTicks n (s .pending) H f → FrontierTable n s H u
 
 -- "an event is eligible": where f has the first ticks of these events, r is the rule's answer for the first n processes.
 unfoldable pub Eligible : ℕ → ℕ → List ℕ → List ℕ → Bool → Type 0

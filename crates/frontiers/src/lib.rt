@@ -1,8 +1,8 @@
 // First pending ticks of all processes, the lesser of frontier and first tick for each, and what an
 // advance raises, each in one pass over flat words. Frontiers are read from the record (crate inbound).
 //
-// A table of first ticks or new bounds has room for a tick of each of 64 processes, two words each, and
-// holds those of the n that there are. These are leaves: each asks that the words it touches are there.
+// A table of first ticks or input frontiers has room for a tick of each of 64 processes, two words each,
+// and holds those of the n that there are. These are leaves: each asks that the words it touches are there.
 use types::Added;
 use types::SimDuration;
 use types::SimTime;
@@ -10,11 +10,11 @@ ghost use mathlib.Core.Path.{_≡_};
 ghost use Prim.Native.Nat.{_+_, _*_, _<_, _≤_};
 ghost use lib.ListN.{length, getD};
 ghost use Rattle.types.specs.Value.{ticksOf, durationOf};
-ghost use Rattle.records.specs.Records.{edgeAt, edgesOf, eventAt, eventsOf};
+ghost use Rattle.records.specs.Records.{eventAt, eventsOf};
 ghost use Rattle.frontiers.specs.Tables.{FirstTicks, FirstTickSet, capped};
 ghost use Rattle.frontiers.specs.Rises.{RaisedEdge, CanRaise, RaisesBounds};
 ghost use mathlib.Core.Bool.{_||_};
-ghost use Rattle.frontiers.specs.InputFrontiers.{RaisedHorizon, RaisedHorizons, NewBounds, Eligible};
+ghost use Rattle.frontiers.specs.InputFrontiers.{RaisedHorizon, RaisedHorizons, ReadsFrontiers, Eligible};
 
 // The first pending tick of n processes, or `none`. From the end: the first is what stays.
 pub fn first_ticks(pending: &[u64], count: usize, n: usize, none: SimTime, first: &mut [u64])
@@ -53,38 +53,63 @@ pub fn advanced_bound(frontier: SimTime, lookahead: SimDuration, top: SimTime) -
     }
 }
 
-// Each bound rises to what the table says of the edge's source; how many did. The record is made anew
-// on the way, of the bounds as they are then: no frontier is read any more.
+// The input frontiers of n processes, by the record as it is: the table of first ticks becomes theirs.
+fn input_frontiers(processes: &[u64], first: &mut [u64], n: usize, top: SimTime)
+    requires { ⌜ (n ≤ 64) × (length (now processes) ≡ 256) × (length (now first) ≡ 128) ⌝ }
+    ensures { λ _. ⌜ ReadsFrontiers n (ticksOf top) (now (processes .entry)) (now (first .entry)) (now (first .exit)) ⌝ }
+{
+    let mut p = n;
+    while 0 < p {
+        p -= 1;
+        let front = inbound::frontier(processes, p, top);
+        let tick = words::tick_in(first, 2 * p);
+        words::put_tick(first, 2 * p, front.min(tick));
+    }
+}
+
+// The bounds of an advance, each written when it is found, edge by edge (request A.3); how many rose.
+// Frontiers of before the advance decide: all are read, in the place of the first ticks, before the
+// record that they are read from is made anew, of the bounds as they are written.
 pub fn raise_bounds(
     edges: &mut [u64],
     count: usize,
-    bounds: &[u64],
+    first: &mut [u64],
     n: usize,
     processes: &mut [u64],
+    lookahead: SimDuration,
+    top: SimTime,
 ) -> usize
-    requires { ⌜ CanRaise count n (now edges) (now bounds) (now processes) ⌝ }
-    ensures { λ r. ⌜ RaisesBounds count n (now (bounds .entry)) (now (edges .entry)) (now (processes .entry)) (now (edges .exit)) (now (processes .exit)) r ⌝ }
+    requires { ⌜ CanRaise count n (now edges) (now first) (now processes) ⌝ }
+    ensures { λ r. ⌜ RaisesBounds count n (durationOf lookahead) (ticksOf top) (now (first .entry)) (now (edges .entry)) (now (processes .entry)) (now (edges .exit)) (now (processes .exit)) r ⌝ }
 {
+    input_frontiers(processes, first, n, top);
     inbound::reset(processes, n);
     let mut raised: usize = 0;
     let mut i = count;
     while 0 < i {
         i -= 1;
-        raised += raise_bound(edges, i, bounds);
+        raised += raise_bound(edges, i, first, lookahead, top);
         inbound::lower(edges, i, processes);
     }
     raised
 }
 
 // The bound of edge i rises, or stays; 1 if it rose.
-fn raise_bound(edges: &mut [u64], i: usize, bounds: &[u64]) -> usize
-    requires { ⌜ (4 * i + 4 ≤ length (now edges)) × (length (now bounds) ≡ 128) × (getD (now edges) (4 * i) 0 < 64) ⌝ }
-    ensures { λ r. ⌜ RaisedEdge i (now (bounds .entry)) (now (edges .entry)) (now (edges .exit)) r ⌝ }
+fn raise_bound(
+    edges: &mut [u64],
+    i: usize,
+    frontiers: &[u64],
+    lookahead: SimDuration,
+    top: SimTime,
+) -> usize
+    requires { ⌜ (4 * i + 4 ≤ length (now edges)) × (128 ≤ length (now frontiers)) × (getD (now edges) (4 * i) 0 < 64) ⌝ }
+    ensures { λ r. ⌜ RaisedEdge i (durationOf lookahead) (ticksOf top) (now (frontiers .entry)) (now (edges .entry)) (now (edges .exit)) r ⌝ }
 {
     let from = edges[4 * i];
     let at = (2 * from) as usize;
-    let to = words::tick_in(bounds, at);
-    if words::raise_tick(edges, 4 * i + 2, to) {
+    let frontier = words::tick_in(frontiers, at);
+    let bound = advanced_bound(frontier, lookahead, top);
+    if words::raise_tick(edges, 4 * i + 2, bound) {
         return 1;
     }
     0
@@ -145,28 +170,6 @@ fn raise_horizon(
         tick: least_tick.min(tick),
         horizon: least.min(horizon),
         rose: either(rose, found.rose),
-    }
-}
-
-// What the bounds of the edges from each of n processes rise to: the table of first ticks becomes that
-// of new bounds.
-pub fn new_bounds(
-    processes: &[u64],
-    first: &mut [u64],
-    n: usize,
-    lookahead: SimDuration,
-    top: SimTime,
-)
-    requires { ⌜ (n ≤ 64) × (length (now processes) ≡ 256) × (length (now first) ≡ 128) ⌝ }
-    ensures { λ _. ⌜ NewBounds n (durationOf lookahead) (ticksOf top) (now (processes .entry)) (now (first .entry)) (now (first .exit)) ⌝ }
-{
-    let mut p = n;
-    while 0 < p {
-        p -= 1;
-        let front = inbound::frontier(processes, p, top);
-        let tick = words::tick_in(first, 2 * p);
-        let bound = advanced_bound(front.min(tick), lookahead, top);
-        words::put_tick(first, 2 * p, bound);
     }
 }
 

@@ -38,5 +38,6 @@ pub mod Demand
 pub mod Carried
 -- Laws for the code.
 pub mod Again
+pub mod InPlace
 pub mod Outcomes
 pub mod ProcessCount

@@ -2,14 +2,14 @@
 use mathlib.Core.Path.{refl}
 use Rattle.rules.specs.Opened.{all-rules}
 use Rattle.rules.specs.Rehearsals.{pair, one-way, carryOn, outs, answers, nullMessagesCounted}
-use Rattle.rules.specs.Slips.{Reached, SlipsNoticed, two-into-one, stateAfter, after}
+use Rattle.rules.specs.Slips.{Reached, SlipsNoticed, two-into-one, chain, stateAfter, after}
 
 pub reached-by-calls : Reached
-unfolding all-rules pair stateAfter after
-reached-by-calls = record { in-hand-reached = refl; poisoned-reached = refl; last-reached = refl; two-reached = refl; no-budget-reached = refl }
+unfolding all-rules pair chain stateAfter after
+reached-by-calls = record { in-hand-reached = refl; poisoned-reached = refl; last-reached = refl; two-reached = refl; no-budget-reached = refl; chain-reached = refl }
 
 pub slips-noticed : SlipsNoticed
-unfolding all-rules pair one-way carryOn outs answers nullMessagesCounted stateAfter two-into-one
+unfolding all-rules pair one-way carryOn outs answers nullMessagesCounted stateAfter two-into-one chain
 slips-noticed = record {
   part-of-a-round = λ c. refl;
   spent-without-refresh = refl;
@@ -29,5 +29,10 @@ slips-noticed = record {
   record-built = refl;
   record-advanced = refl;
   behind-horizon = refl;
+  bounds-at-once = refl;
+  bounds-in-place = refl;
+  bounds-read-anew = refl;
+  chain-steps = refl;
+  chain-null-messages = refl;
   short-list-first = refl;
 }

@@ -11,6 +11,7 @@ pub mod Initial
 pub mod Begin
 pub mod Refresh
 pub mod Step
+pub mod InPlace
 pub mod HandBack
 pub mod Reads
 pub mod Plan

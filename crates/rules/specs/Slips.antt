@@ -2,15 +2,16 @@
 -- An input for each refusal 1 to 36, and for each limit, is run by programs, against the Rust where it has an answer (docs/WHERE.md).
 use mathlib.Core.Path.{_≡_}
 use mathlib.Core.Bool.{true, false}
-use mathlib.Core.List.{List, [], _∷_, _++_}
+use mathlib.Core.List.{List, [], _∷_, _++_, map}
 use Prim.Native.Nat.{ℕ, _-_, _^_}
-use Rattle.rules.specs.State.{Event, unset, stored, State, Counters, zeros, withHandled, withBounds, closed, poison, maxTick, maxCount}
+use Rattle.rules.specs.State.{Event, Edge, unset, stored, State, Counters, zeros, withHandled, withBounds, closed, poison, maxTick, maxCount}
 use Rattle.rules.specs.Answers
-use Rattle.rules.specs.Answers.{Entity, Accepted, Batch, Advanced, Committed, Refused, number, values}
+use Rattle.rules.specs.Answers.{Entity, Accepted, Batch, Advanced, Finished, Committed, Refused, number, values}
 use Rattle.rules.specs.Rows.{Out, out}
 use Rattle.rules.specs.Build.{Setup, built}
 use Rattle.rules.specs.Initial.{addInitial}
-use Rattle.rules.specs.Step.{step}
+use Rattle.rules.specs.Step.{step, advance}
+use Rattle.rules.specs.InPlace.{advanceInPlace, advanceReadingAnew}
 use Rattle.rules.specs.HandBack.{Emission, handBack}
 use Rattle.rules.specs.Plan.{plan}
 use Rattle.rules.specs.Calls.{Call, AddInitial, Begin, Step, HandBack, rule}
@@ -61,12 +62,23 @@ two-in-hand = in-run [] 2 budget (event 0 0 1 0 ∷ event 0 1 2 1 ∷ [])
 abbrev pub no-budget : State
 no-budget = in-run (event 0 1 2 0 ∷ []) 1 0 []
 
+-- A.3's chain, the edges 0→1 and 1→2, in its run before the first step; and the bounds that an advance leaves.
+unfoldable pub chain : Setup
+chain = record { n = 3; lookahead = 3; ids = 0 ∷ 1 ∷ 2 ∷ []; sources = 0 ∷ 1 ∷ 2 ∷ []; counts = 1 ∷ 1 ∷ 0 ∷ []; destinations = 1 ∷ 2 ∷ [] }
+
+abbrev pub chain-run : State
+chain-run = record { n = 3; lookahead = 3; edges = record { source = 0; destination = 1; bound = 3 } ∷ record { source = 1; destination = 2; bound = 3 } ∷ []; pending = []; next = 0; horizons = 0 ∷ 0 ∷ 0 ∷ []; inbound = maxTick ∷ 3 ∷ 3 ∷ []; gvt = 0; stored = stored 9 budget; used = 0; batch = []; initial = false; running = true; poisoned = false }
+
+abbrev pub boundsLeft : Out → List ℕ
+boundsLeft o = map (λ (e : Edge). e .bound) (o .after .edges)
+
 pub record Reached : Type 0 where
   pub in-hand-reached : after at-two ≡ in-hand
   pub poisoned-reached : after (handing-back (emits 1 1 1)) ≡ poisoned-state
   pub last-reached : after (AddInitial (message 0 1 2) ∷ AddInitial (message 0 1 2) ∷ Begin 9 1 ∷ Step ∷ []) ≡ last-in-hand
   pub two-reached : after (AddInitial (message 0 0 1) ∷ AddInitial (message 0 1 2) ∷ Begin 9 budget ∷ Step ∷ []) ≡ two-in-hand
   pub no-budget-reached : after (initial-at 2 0) ≡ no-budget
+  pub chain-reached : stateAfter (built chain) zeros (Begin 9 budget ∷ []) ≡ chain-run
 
 -- By hand, since no calls lead there: the local horizons are 9; no sequence number is left; L is 0, and it is poisoned.
 abbrev pub horizons-at-nine : State
@@ -142,5 +154,11 @@ pub record SlipsNoticed : Type 0 where
   pub record-advanced : stateAfter (built two-into-one) zeros (Begin 9 budget ∷ Step ∷ []) .inbound ≡ (6 ∷ maxTick ∷ 6 ∷ [])
   -- "a frontier is read as the lesser of it and H": process 0 has no inbound edge, and an event behind the horizon waits.
   pub behind-horizon : answers one-way (AddInitial (message 0 0 10) ∷ Begin 9 budget ∷ Step ∷ []) ≡ (Accepted ∷ Accepted ∷ Advanced 2 ∷ [])
+  -- A.3: "Frontiers before the advance still decide". Process 0 is held by H = 10 alone, and 1 by the bound 3 of 0→1, so the bounds of 0→1 and 1→2 rise to 10 and 6, all at once or edge by edge. Read anew at 1→2, the frontier of 1 would be 10 already.
+  pub bounds-at-once : boundsLeft (advance chain-run zeros 9) ≡ (10 ∷ 6 ∷ [])
+  pub bounds-in-place : boundsLeft (advanceInPlace chain-run zeros 9) ≡ (10 ∷ 6 ∷ [])
+  pub bounds-read-anew : boundsLeft (advanceReadingAnew chain-run zeros 9) ≡ (10 ∷ 10 ∷ [])
+  pub chain-steps : answers chain (Begin 9 budget ∷ Step ∷ Step ∷ Step ∷ Step ∷ []) ≡ (Accepted ∷ Advanced 2 ∷ Advanced 5 ∷ Advanced 9 ∷ Finished 9 ∷ [])
+  pub chain-null-messages : nullMessagesCounted chain (Begin 9 budget ∷ Step ∷ Step ∷ Step ∷ Step ∷ []) ≡ (0 ∷ 2 ∷ 3 ∷ 3 ∷ 3 ∷ [])
   -- Plan: 36 before 35, and the lent list as it was.
   pub short-list-first : plan 2 3 (entity 1 ∷ entity 1 ∷ []) (entity 9 ∷ []) ≡ record { answer = Refused Answers.TooManyEntities; list = entity 9 ∷ [] }

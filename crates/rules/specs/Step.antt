@@ -78,13 +78,25 @@ countAdvance c k = record { handled = c .handled; emitted = c .emitted; remote =
 unfoldable pub complete : State → ℕ → Bool
 complete s H = every (leb H) (s .horizons) && every (λ e. leb H (e .tick)) (s .pending)
 
+-- What an advance has come to: the state, how many edge bounds rose, and whether anything did.
+pub record Progress : Type 0 where
+  pub state : State
+  pub raised : ℕ
+  pub rose : Bool
+
 -- "If something rose, answer Advanced. If nothing rose, and [the run is complete], answer Finished and close the run; else poison and answer 12."
+abbrev pub answerAdvance : Progress → Counters → ℕ → Out
+answerAdvance a c horizon =
+    if a .rose then out (Advanced (a .state .gvt)) (a .state) (countAdvance c (a .raised))
+    else if complete (a .state) (suc horizon) then out (Finished (a .state .gvt)) (closed (a .state)) c
+    else out (Refused Answers.Poisoned) (poison (a .state)) c
+
+-- All bounds are raised at once. The code does it edge by edge, which is the same (specs/InPlace.antt).
+abbrev pub advancedAtOnce : State → ℕ → Progress
+advancedAtOnce s horizon = record { state = advanced s horizon; raised = nullMessagesOf s (suc horizon); rose = anyAdvanced s (suc horizon) }
+
 unfoldable pub advance : State → Counters → ℕ → Out
-advance s c horizon =
-    let t = advanced s horizon in
-    if anyAdvanced s (suc horizon) then out (Advanced (t .gvt)) t (countAdvance c (nullMessagesOf s (suc horizon)))
-    else if complete t (suc horizon) then out (Finished (t .gvt)) (closed t) c
-    else out (Refused Answers.Poisoned) (poison t) c
+advance s c horizon = answerAdvance (advancedAtOnce s horizon) c horizon
 
 abbrev pub takenAt : State → ℕ → ℕ → BatchTaken
 takenAt s horizon budget = takeEligible (s .inbound) (suc horizon) (upTo (s .n)) (budget - s .used) (s .pending)

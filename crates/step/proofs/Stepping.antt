@@ -13,7 +13,7 @@ use Rattle.rules.specs.Base.{nonEmpty}
 use Rattle.rules.specs.State.{Event, State, withBatch}
 use Rattle.rules.specs.Answers as A
 use Rattle.rules.specs.Rows.{out}
-use Rattle.rules.specs.Step.{takenAt, stepRun}
+use Rattle.rules.specs.Step.{takenAt}
 use Rattle.rules.proofs.Tests.{by-bool, not-both}
 use Rattle.rules.proofs.Cases
 use Rattle.rules.proofs.Outcomes.{step-poisoned, step-nothing, step-runs, run-batch}
@@ -29,8 +29,9 @@ use Rattle.state.proofs.Facts.{stored-is, some-events, no-events, few-processes
 use Rattle.state.proofs.Moves.{batch-moves}
 use Rattle.step_advance.specs.Advances.{CanAdvance}
 use Rattle.state.specs.declared.CoreResult.{CoreResult}
-use Rattle.step.specs.WithoutBatch.{NothingTaken, AdvancesOrRefuses}
+use Rattle.step.specs.WithoutBatch.{NothingTaken, withoutBatch, AdvancesOrRefuses}
 use Rattle.step.specs.Steps.{CanStep, StepAllowed, Refuses, CanTakeBatch, HandsOut, batchAnswered, Steps}
+use Rattle.step.proofs.WithoutBatch.{without-batch}
 
 positive : (n : ℕ) → (n ≡ 0 → ⊥) → 0 < n
 positive n f = omega arith
@@ -122,7 +123,8 @@ module _ (h : Header) (c : Counters) (E Q Z B : List ℕ) (l : ValidArrays h E Q
           let go′ : AdvancesOrRefuses (withCounts h (g .pending) (g .batch)) c E Q′ Z q E′ Z′ = subst (λ (x : Header). AdvancesOrRefuses x c E Q′ Z q E′ Z′) (ho .head) go in
           record {
             gives = go′ .gives B′ (subst (λ (s : State). NothingTaken s (ticksOf (h .horizon)) (h .budget)) (sym same) idle)
-                ∙ ap (λ (s : State). stepRun s (countersOf c) (ticksOf (h .horizon)) (h .budget)) same
+                ∙ ap (λ (s : State). withoutBatch s (countersOf c) (ticksOf (h .horizon)) (h .budget)) same
+                ∙ without-batch (view h E Q Z B) (countersOf c) (ticksOf (h .horizon)) (h .budget) (idle .none-taken)
                 ∙ sym (step-runs (view h E Q Z B) (countersOf c) (ticksOf (h .horizon)) (h .budget) steps);
             kept = λ es x. not-both x (go .moves es);
           }

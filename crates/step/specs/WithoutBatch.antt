@@ -5,10 +5,13 @@ use mathlib.Core.List.{List}
 use Prim.Native.Nat.{ℕ}
 use Rattle.types.specs.Value.{ticksOf}
 use Rattle.records.specs.Records.{eventsOf}
-use Rattle.rules.specs.Base.{nonEmpty}
-use Rattle.rules.specs.State.{Event, State}
-use Rattle.rules.specs.Rows.{out}
-use Rattle.rules.specs.Step.{takenAt, countAdvance, stepRun}
+use Rattle.rules.specs.Base.{if_then_else_, nonEmpty}
+use Rattle.rules.specs.State as R
+use Rattle.rules.specs.State.{Event, State, closed}
+use Rattle.rules.specs.Answers as A
+use Rattle.rules.specs.Rows.{Out, out}
+use Rattle.rules.specs.Step.{takenAt, spent, countAdvance}
+use Rattle.rules.specs.InPlace.{advanceInPlace}
 use Rattle.rules.proofs.Cases
 use Rattle.state.specs.declared.Header.{Header}
 use Rattle.state.specs.declared.Counters.{Counters}
@@ -24,10 +27,16 @@ pub record NothingTaken (s : State) (h b : ℕ) : Type 0 where
   pub steps : Cases.Steps s h b
   pub none-taken : nonEmpty (takenAt s h b .events) ≡ false
 
--- Answer, state and counters are the rule's, whatever the batch is; and the answer is none that leaves the state as given.
+-- "Else if used >= budget and an event is eligible, 24. Else advance": as A.3 has it, bounds written one by one.
+unfoldable pub withoutBatch : State → R.Counters → ℕ → ℕ → Out
+withoutBatch s c horizon budget =
+    if spent s horizon budget then out (A.Refused (A.EventBudgetExceeded budget)) (closed s) c
+    else advanceInPlace s c horizon
+
+-- Answer, state and counters are those, whatever the batch is; and the answer is none that leaves the state as given.
 pub record AdvancesOrRefuses (h : Header) (c : Counters) (edges pending processes : List ℕ) (r : CoreResult) (edges′ processes′ : List ℕ) : Type 0 where
   pub gives : (B : List ℕ) → NothingTaken (view h edges pending processes B) (ticksOf (h .horizon)) (h .budget)
-      → out (answerOf (eventsOf (r .head .batch) B) (r .answer)) (view (r .head) edges′ pending processes′ B) (countersOf (r .counters)) ≡ stepRun (view h edges pending processes B) (countersOf c) (ticksOf (h .horizon)) (h .budget)
+      → out (answerOf (eventsOf (r .head .batch) B) (r .answer)) (view (r .head) edges′ pending processes′ B) (countersOf (r .counters)) ≡ withoutBatch (view h edges pending processes B) (countersOf c) (ticksOf (h .horizon)) (h .budget)
   pub moves : (es : List Event) → leavesStateAsGiven (answerOf es (r .answer)) ≡ false
 
 -- The run is closed by 24, or because it is complete.

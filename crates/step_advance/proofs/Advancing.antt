@@ -1,5 +1,5 @@
 -- The leaves of an advance, put together.
-use mathlib.Core.Path.{_≡_, refl, sym, ap, _∙_}
+use mathlib.Core.Path.{_≡_, refl, sym, _∙_}
 use mathlib.Core.Bool.{Bool, false, _||_}
 use mathlib.Core.List.{List}
 use Prim.Native.Nat.{ℕ, suc, _≤_, _<_}
@@ -13,14 +13,15 @@ use Rattle.words.proofs.Tab.{tab-cong}
 use Rattle.records.specs.Records.{edgesOf, eventsOf}
 use Rattle.rules.specs.State.{State, withBounds}
 use Rattle.rules.specs.Frontiers.{inboundOf}
-use Rattle.rules.specs.Step.{countRaised, newEdges, newHorizons, nullMessagesOf, anyAdvanced}
+use Rattle.rules.specs.Step.{newHorizons}
+use Rattle.rules.specs.InPlace.{withEdges, raiseBounds}
 use Rattle.rules.proofs.Tests.{and-off}
 use Rattle.rules.proofs.Shape.{Queued}
-use Rattle.rules.proofs.Again.{advanced-once}
+use Rattle.rules.proofs.Again.{progress-once}
 use Rattle.inbound.proofs.Recording.{inbounds-made}
 use Rattle.frontiers.specs.Tables.{FirstTicks}
-use Rattle.frontiers.specs.Rises.{Bounds, Sources, RaisesBounds}
-use Rattle.frontiers.specs.InputFrontiers.{NewBounds, Eligible}
+use Rattle.frontiers.specs.Rises.{RaisesInPlace, RaisesBounds}
+use Rattle.frontiers.specs.InputFrontiers.{Eligible}
 use Rattle.state.specs.declared.Header.{Header}
 use Rattle.state.specs.View.{view}
 use Rattle.state.specs.Headers.{withGvt}
@@ -37,17 +38,11 @@ pub spends-if : (h : Header) (processes first : List ℕ) (top : SimTime) (r : B
 unfolding BudgetSpent Eligible
 spends-if h processes first top r l et e E P B t = rw et at e (eventsOf (h .pending) P) t ∙ sym (rw (le-leb (h .budget) (h .used) l))
 
--- The sources of the edges have places in a table.
-pub sources-most : (n m : ℕ) (w : List ℕ) → n ≤ 64 → Sources n m w → Sources 64 m w
-unfolding Sources
-sources-most n m w l s i h = omega (arith, s i h)
-
-module _ (h : Header) (E Z first Z′ W E′ Z″ : List ℕ) (top : SimTime) (r : Refreshed) (k : ℕ) (b : Bool)
+module _ (h : Header) (E Z first Z′ E′ Z″ : List ℕ) (top : SimTime) (r : Refreshed) (k : ℕ) (b : Bool)
     (m : CanAdvance h E Z)
     (et : ticksOf top ≡ suc (ticksOf (h .horizon)))
     (re : Refreshes (h .n) (ticksOf (h .gvt)) (ticksOf top) Z first r Z′)
-    (bo : NewBounds (h .n) (durationOf (h .lookahead)) (ticksOf top) Z′ first W)
-    (ra : RaisesBounds (h .edges) (h .n) W E Z′ E′ Z″ k)
+    (ra : RaisesBounds (h .edges) (h .n) (durationOf (h .lookahead)) (ticksOf top) first E Z′ E′ Z″ k)
     (up : b ≡ (ltb 0 k || r .rose)) where
   module _ (P B : List ℕ) (q : Queued (h .n) (h .next) (eventsOf (h .pending) P)) (t : FirstTicksOf h P first) where
     s : State
@@ -60,32 +55,22 @@ module _ (h : Header) (E Z first Z′ W E′ Z″ : List ℕ) (top : SimTime) (r
     unfolding s
     rises = re .rises (view h E P Z B) (ticksOf (h .horizon)) refl refl refl refl et q firsts
 
-    bounds : Bounds (h .n) s (suc (ticksOf (h .horizon))) W
-    unfolding s NewBounds
-    bounds = rw et at (bo (view h E P Z B) refl (sym (re .record-kept)) firsts)
-
-    edges : edgesOf (h .edges) E′ ≡ newEdges s (suc (ticksOf (h .horizon)))
-    unfolding s
-    edges = ra .raised .edges (h .n) (view h E P Z B) (suc (ticksOf (h .horizon))) (m .sources) bounds
-
-    counted : k ≡ nullMessagesOf s (suc (ticksOf (h .horizon)))
-    unfolding s
-    counted = ra .raised .counted ∙ ap (countRaised (edgesOf (h .edges) E)) edges
+    raised : raiseBounds s (suc (ticksOf (h .horizon))) ≡ record { now = withEdges s (edgesOf (h .edges) E′); raised = k }
+    unfolding s RaisesInPlace
+    raised = rw (← et) (ra .in-place (view h E P Z B) refl refl (sym (re .record-kept)) firsts)
 
     -- The local horizons stay while bounds and record are written.
     horizons : horizonsOf (h .n) Z″ ≡ newHorizons s (suc (ticksOf (h .horizon)))
     horizons = tab-cong _ _ 0 (h .n) (λ p _ l. ra .recorded .horizons p (omega (arith, m .few-processes))) ∙ rises .horizons
 
-    recorded : inboundsOf (h .n) Z″ ≡ inboundOf (h .n) (newEdges s (suc (ticksOf (h .horizon))))
-    recorded = inbounds-made (h .n) (edgesOf (h .edges) E′) Z′ Z″ (ra .recorded) ∙ ap (inboundOf (h .n)) edges
+    recorded : inboundsOf (h .n) Z″ ≡ inboundOf (h .n) (edgesOf (h .edges) E′)
+    recorded = inbounds-made (h .n) (edgesOf (h .edges) E′) Z′ Z″ (ra .recorded)
 
     advances : AdvancesTo s (ticksOf (h .horizon)) (record { head = withGvt h (r .gvt); raised = k; rose = b }) (view (withGvt h (r .gvt)) E′ P Z″ B)
-    unfolding s anyAdvanced
-    advances = record {
-      state = (λ i. withBounds (view h E P Z B) (edges i) (recorded i) (horizons i) (rises .gvt i)) ∙ sym (advanced-once (view h E P Z B) (ticksOf (h .horizon)));
-      raised = counted;
-      rose = up ∙ (λ i. ltb 0 (counted i) || rises .rose i);
-    }
+    unfolding s AdvancesTo
+    advances =
+        (λ i. record { state = withBounds (view h E P Z B) (edgesOf (h .edges) E′) (recorded i) (horizons i) (rises .gvt i); raised = k; rose = (up ∙ (λ j. ltb 0 k || rises .rose j)) i })
+        ∙ sym (progress-once (view h E P Z B) (ticksOf (h .horizon)) (edgesOf (h .edges) E′) k raised)
 
   pub advance-is : Advances h E Z first (record { head = withGvt h (r .gvt); raised = k; rose = b }) E′ Z″
   unfolding s

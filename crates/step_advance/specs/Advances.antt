@@ -7,7 +7,8 @@ use lib.ListN.{length}
 use Rattle.types.specs.Value.{ticksOf}
 use Rattle.records.specs.Records.{eventsOf}
 use Rattle.rules.specs.State.{State}
-use Rattle.rules.specs.Step.{spent, nullMessagesOf, anyAdvanced, advanced}
+use Rattle.rules.specs.Step.{spent}
+use Rattle.rules.specs.InPlace.{advancedInPlace}
 use Rattle.rules.proofs.Shape.{Queued}
 use Rattle.inbound.specs.Inbound.{Destinations}
 use Rattle.frontiers.specs.Tables.{FirstTicks}
@@ -34,11 +35,9 @@ FirstTicksOf h P first = FirstTicks (h .n) (eventsOf (h .pending) P) (suc (ticks
 unfoldable pub BudgetSpent : Header → List ℕ → List ℕ → Bool → Type 0
 BudgetSpent h processes first r = (E P B : List ℕ) → FirstTicksOf h P first → r ≡ spent (view h E P processes B) (ticksOf (h .horizon)) (h .budget)
 
--- The state s advanced is t.
-pub record AdvancesTo (s : State) (horizon : ℕ) (r : Advanced) (t : State) : Type 0 where
-  pub state : t ≡ advanced s horizon
-  pub raised : r .raised ≡ nullMessagesOf s (suc horizon)
-  pub rose : r .rose ≡ anyAdvanced s (suc horizon)
+-- The advance of A.3, bounds written one by one, leads from the state s to t.
+unfoldable pub AdvancesTo : State → ℕ → Advanced → State → Type 0
+AdvancesTo s horizon r t = record { state = t; raised = r .raised; rose = r .rose } ≡ advancedInPlace s horizon
 
 -- Whatever the pending events, as 11 lets them pass, and the batch are.
 pub record Advances (h : Header) (edges processes first : List ℕ) (r : Advanced) (edges′ processes′ : List ℕ) : Type 0 where

@@ -69,9 +69,8 @@ pub fn budget_spent<'a>(head: Header, processes: &'a [u64], first: &'a [u64], to
     frontiers::has_eligible_event(processes, first, head.n, top)
 }
 
-// Local horizons and edge bounds rise to what the record and the first ticks say; then GVT. The table
-// of first ticks becomes that of new bounds, so that all frontiers are read before a bound is written:
-// the record is made anew with the bounds.
+// Local horizons and edge bounds rise to what the record and the first ticks say, and GVT: horizons and
+// GVT first, since the record that frontiers are read from is made anew with the bounds.
 pub fn advance(
     head: Header,
     edges: &mut [u64],
@@ -83,8 +82,15 @@ pub fn advance(
     ensures { λ r. ⌜ Advances head (now (edges .entry)) (now (processes .entry)) (now (first .entry)) r (now (edges .exit)) (now (processes .exit)) ⌝ }
 {
     let refreshed = refresh(head.n, head.gvt, processes, first, top);
-    frontiers::new_bounds(processes, first, head.n, head.lookahead, top);
-    let raised = frontiers::raise_bounds(edges, head.edges, first, head.n, processes);
+    let raised = frontiers::raise_bounds(
+        edges,
+        head.edges,
+        first,
+        head.n,
+        processes,
+        head.lookahead,
+        top,
+    );
     let mut h = head;
     let gvt = refreshed.gvt;
     h.gvt = gvt;

@@ -119,7 +119,7 @@ fn some_files(
     (tally, None)
 }
 
-/// Document 01's rehearsals, those that it does not mark among them: whether our program answers as
+/// The rehearsals of documents 01 and 02, those that 01 does not mark among them: whether our program answers as
 /// the original does, and as is written there.
 fn rehearsed(program: &Path) -> bool {
     let rehearsals = generate::rehearsals();
@@ -143,7 +143,7 @@ fn rehearsed(program: &Path) -> bool {
     let right = written && found.is_none();
     found.iter().for_each(|told| println!("{told}"));
     println!(
-        "calls: {} rehearsals of document 01 on our program {}: {}",
+        "calls: {} rehearsals of documents 01 and 02 on our program {}: {}",
         all.len(),
         name(program),
         if right {

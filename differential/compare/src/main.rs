@@ -1,6 +1,6 @@
 //! Compares the original with the rules.
 //!
-//!     compare quick             some thousand scenarios, and document 01's rehearsals
+//!     compare quick             some thousand scenarios, and the documents' rehearsals
 //!     compare full [N]          N scenarios (a million if not given)
 //!     compare slips [N]         every wrong program is noticed within N scenarios
 //!     compare store DIR [N [SEED]]  N lists of calls with the original's answers

@@ -1,8 +1,8 @@
-//! Document 01's rehearsals on the original.
+//! The rehearsals of documents 01 and 02 on the original.
 use crate::lists;
 use crate::store::{begins, lines};
 
-/// Whether the original answers as document 01 says it does.
+/// Whether the original answers as the documents say it does.
 pub fn rehearse() -> bool {
     let rehearsals = generate::rehearsals();
     let mut wrong = 0;
@@ -21,7 +21,7 @@ pub fn rehearse() -> bool {
         }
     }
     println!(
-        "compared: {} rehearsals of document 01, {wrong} differences",
+        "compared: {} rehearsals of documents 01 and 02, {wrong} differences",
         rehearsals.len()
     );
     wrong == 0

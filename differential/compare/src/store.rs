@@ -40,7 +40,7 @@ pub fn lines(observed: &Observed) -> (Vec<String>, String) {
     }
 }
 
-/// The lists of the sample: document 01's rehearsals (but for the long one), then others.
+/// The lists of the sample: the documents' rehearsals (but for the long one), then others.
 fn sample(count: u64, seed: u64) -> Vec<List> {
     let rehearsals = generate::rehearsals().into_iter().map(|r| r.list);
     let mut all: Vec<List> = rehearsals.filter(|list| list.calls.len() < 100).collect();

@@ -1,4 +1,4 @@
-//! Document 01, "Rehearsals on paper".
+//! Document 01, "Rehearsals on paper", and the chains of A.3 (document 02).
 use model::{Call, Emission, List, Message, Payload, Setup, TOP};
 
 /// A list of calls and how the lines of its answers begin, from build's on.
@@ -8,12 +8,13 @@ pub struct Rehearsal {
     pub answers: Vec<String>,
 }
 
-fn setup(rows: [&[u32]; 2]) -> Setup {
+fn setup(rows: &[&[u32]]) -> Setup {
+    let n = rows.len() as u32;
     Setup {
-        n: 2,
+        n: n.into(),
         lookahead: 3,
-        ids: vec![0, 1],
-        sources: vec![0, 1],
+        ids: (0..n).collect(),
+        sources: (0..n).collect(),
         counts: rows.iter().map(|row| row.len() as u64).collect(),
         destinations: rows.concat(),
     }
@@ -68,11 +69,11 @@ fn on(setup: Setup, name: &'static str, calls: Vec<Call>, answers: &[&str]) -> R
 
 /// On the edges 0→1 and 1→0.
 fn pair(name: &'static str, calls: Vec<Call>, answers: &[&str]) -> Rehearsal {
-    on(setup([&[1], &[0]]), name, calls, answers)
+    on(setup(&[&[1], &[0]]), name, calls, answers)
 }
 
 fn refused_rows(name: &'static str, row: &[u32], answer: &str) -> Rehearsal {
-    on(setup([row, &[]]), name, vec![], &[answer])
+    on(setup(&[row, &[]]), name, vec![], &[answer])
 }
 
 const OK: &str = "accepted";
@@ -139,7 +140,7 @@ fn c9_and_c10() -> Vec<Rehearsal> {
     let last = TOP - 1;
     vec![
         on(
-            setup([&[1], &[]]),
+            setup(&[&[1], &[]]),
             "C9",
             vec![initial(0, 0, last), begin(last), Step, emits(0, 1, TOP)],
             &[
@@ -186,11 +187,40 @@ fn the_rest() -> Vec<Rehearsal> {
     ]
 }
 
-/// The rehearsals of document 01.
+/// A.3: "Frontiers before the advance still decide". Along 0→1→2 the first advance raises the bounds to
+/// 10 and 6; with frontiers read anew at each edge it would be 10 and 10. The same along 2→1→0, for a
+/// program that goes through the edges from the other end.
+fn chains() -> Vec<Rehearsal> {
+    use Call::Step;
+    let chain = |name, rows: &[&[u32]], first: &str| {
+        let answers = [OK, OK, first, "advanced 5", "advanced 9", "finished 9"];
+        on(
+            setup(rows),
+            name,
+            vec![begin(9), Step, Step, Step, Step],
+            &answers,
+        )
+    };
+    vec![
+        chain(
+            "0→1→2",
+            &[&[1], &[2], &[]],
+            "advanced 2 | 0 0 0 1 2 0 0 | 3 3 0 2 | 0:1:a 1:2:6 |  | a 3 3",
+        ),
+        chain(
+            "2→1→0",
+            &[&[], &[0], &[1]],
+            "advanced 2 | 0 0 0 1 2 0 0 | 3 3 0 2 | 1:0:6 2:1:a |  | 3 3 a",
+        ),
+    ]
+}
+
+/// The rehearsals of document 01, and A.3's chains.
 pub fn rehearsals() -> Vec<Rehearsal> {
     let mut all = c1_to_c5();
     all.extend(c6_to_c8());
     all.extend(c9_and_c10());
     all.extend(the_rest());
+    all.extend(chains());
     all
 }
