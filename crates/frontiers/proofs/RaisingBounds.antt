@@ -10,20 +10,20 @@ use lib.ListN.{length, getD}
 use borrow.Author.Tests.{lt-ltb, le-ltb}
 use Rattle.types.specs.declared.SimTime.{SimTime}
 use Rattle.types.specs.Value.{ticksOf}
-use Rattle.words.specs.Words.{tab, tickAt, tickOf, putTick, RaisesTick}
+use Rattle.words.specs.Words.{tab, tickAt, tickOf, inboundsOf, putTick, RaisesTick}
 use Rattle.words.proofs.Tab.{tab-cong, tab-step, tab-none, tab-whole, Pass, pass-start, pass-more, pass-end}
 use Rattle.words.proofs.Ticks.{by-rise}
 use Rattle.records.specs.Records.{edgeAt, edgesOf}
 use Rattle.records.proofs.Stored.{bound-same, bound-other}
 use Rattle.rules.specs.Base.{if_then_else_}
 use Rattle.rules.specs.State.{Edge, State}
-use Rattle.rules.specs.Step.{newBound, raisedEdges, countRaised, newEdges, nullMessagesOf}
+use Rattle.rules.specs.Step.{inputFrontier, newBound, raisedEdges, countRaised, newEdges, nullMessagesOf}
 use Rattle.rules.specs.InPlace.{withEdges, raiseBounds}
 use Rattle.rules.proofs.Tests.{by-test, not-both}
 use Rattle.rules.proofs.InPlace.{raised-at-once}
 use Rattle.inbound.specs.Inbound.{LowersInbound, RecordsInbound, Destinations}
-use Rattle.inbound.proofs.Recording.{Recording, recording-start, recording-more, recording-end}
-use Rattle.frontiers.specs.Tables.{FrontierTable, capped}
+use Rattle.inbound.proofs.Recording.{Recording, recording-start, recording-more, recording-end, safe-in}
+use Rattle.frontiers.specs.Tables.{FirstTicks, capped}
 use Rattle.frontiers.specs.Rises.{raisedEdge, RaisedEdge, RaisesInPlace, RaisesBounds, Sources}
 use Rattle.frontiers.specs.InputFrontiers.{ReadsFrontiers}
 
@@ -93,11 +93,15 @@ count-step : (f g : ℕ → Edge) (i m : ℕ) → 0 < i → i ≤ m → countRai
 unfolding countRaised
 count-step f g i m h l = rw (tab-step f i m h l, tab-step g i m h l)
 
--- What the table says of an edge is what the rules say, where it has the input frontiers of the state.
-module _ (n : ℕ) (s : State) (L H : ℕ) (table : List ℕ) (look : s .lookahead ≡ L) (front : FrontierTable n s H table) where
+-- What the table says of an edge is what the rules say, where its input frontiers were read by the record and the first ticks of the state.
+module _ (n : ℕ) (s : State) (L H : ℕ) (first processes table : List ℕ) (look : s .lookahead ≡ L) (kept : s .inbound ≡ inboundsOf n processes) (firsts : FirstTicks n (s .pending) H first) (front : ReadsFrontiers n H processes first table) where
+  frontier-is : (p : ℕ) → p < n → tickOf table p ≡ inputFrontier s H p
+  unfolding ReadsFrontiers FirstTicks inputFrontier
+  frontier-is p h = front p h ∙ rw (firsts p h, kept, safe-in n H p processes h)
+
   bound-is : (p : ℕ) → p < n → newBound s H p ≡ capped H L (tickOf table p)
-  unfolding FrontierTable newBound capped
-  bound-is p h = rw (front p h, ← look)
+  unfolding newBound capped
+  bound-is p h = rw (frontier-is p h, ← look)
 
   edges-tab : (f : ℕ → Edge) (i m : ℕ) → ((k : ℕ) → i ≤ k → k < i + m → f k .source < n) → raisedEdges s H (tab f i m) ≡ tab (λ k. raisedEdge L H table (f k)) i m
   unfolding raisedEdges tab raisedEdge
@@ -143,10 +147,11 @@ module _ (m L H : ℕ) (table w₀ : List ℕ) where
       }
 
   -- The edges have risen all at once: so they have one by one.
-  module _ (i : ℕ) (w : List ℕ) (r : ℕ) (z : i ≡ 0) (f : Lifting i w r) (n : ℕ) (s : State) (own : s .edges ≡ edgesOf m w₀) (look : s .lookahead ≡ L) (c : Sources n m w₀) (front : FrontierTable n s H table) where
+  module _ (n : ℕ) (first processes : List ℕ) (i : ℕ) (w : List ℕ) (r : ℕ) (z : i ≡ 0) (c : Sources n m w₀) (front : ReadsFrontiers n H processes first table) (f : Lifting i w r)
+      (s : State) (own : s .edges ≡ edgesOf m w₀) (look : s .lookahead ≡ L) (kept : s .inbound ≡ inboundsOf n processes) (firsts : FirstTicks n (s .pending) H first) where
     edges-risen : newEdges s H ≡ edgesOf m w
     unfolding Sources
-    edges-risen = ap (raisedEdges s H) own ∙ edges-tab n s L H table look front (edgeAt w₀) 0 m (λ k x y. c k (omega arith)) ∙ sym (pass-end edgeAt liftedAt m i w₀ w z (f .pass))
+    edges-risen = ap (raisedEdges s H) own ∙ edges-tab n s L H first processes table look kept firsts front (edgeAt w₀) 0 m (λ k x y. c k (omega arith)) ∙ sym (pass-end edgeAt liftedAt m i w₀ w z (f .pass))
 
     risen-counted : nullMessagesOf s H ≡ r
     risen-counted = (λ j. countRaised (own j) (edges-risen j)) ∙ sym (f .counted ∙ rw (tab-whole (edgeAt w₀) i m z, tab-whole (edgeAt w) i m z))
@@ -155,8 +160,8 @@ module _ (m L H : ℕ) (table w₀ : List ℕ) where
     risen = raised-at-once s H ∙ (λ j. record { now = withEdges s (edges-risen j); raised = risen-counted j })
 
   pub lifting-end : (n : ℕ) (first processes : List ℕ) (i : ℕ) (w : List ℕ) (r : ℕ) → i ≤ 0 → Sources n m w₀ → ReadsFrontiers n H processes first table → Lifting i w r → RaisesInPlace m n L H first processes w₀ w r
-  unfolding RaisesInPlace ReadsFrontiers
-  lifting-end n first processes i w r o c front f s own look kept firsts = risen i w r (omega arith) f n s own look c (front s kept firsts)
+  unfolding RaisesInPlace
+  lifting-end n first processes i w r o c front f = risen n first processes i w r (omega arith) c front f
 
 -- Each edge goes on record when its bound is raised: the record is that of the raised edges.
 module _ (m n L H : ℕ) (table w₀ p₀ : List ℕ) where

@@ -9,10 +9,7 @@ use Rattle.types.specs.Value.{ticksOf}
 use Rattle.words.specs.Words.{tickOf, putTick}
 use Rattle.words.proofs.Tab.{Pass, pass-start, pass-more}
 use Rattle.words.proofs.Ticks.{table-same, table-other}
-use Rattle.rules.specs.Step.{inputFrontier}
 use Rattle.inbound.specs.Inbound.{frontierIn}
-use Rattle.inbound.proofs.Recording.{safe-in}
-use Rattle.frontiers.specs.Tables.{FirstTicks, FrontierTable}
 use Rattle.frontiers.specs.InputFrontiers.{ReadsFrontiers}
 
 module _ (n H : ℕ) (w f₀ : List ℕ) where
@@ -37,5 +34,5 @@ module _ (n H : ℕ) (w f₀ : List ℕ) where
   }
 
   pub reading-end : (i : ℕ) (f : List ℕ) → i ≤ 0 → Reading i f → ReadsFrontiers n H w f₀ f
-  unfolding ReadsFrontiers FrontierTable FirstTicks inputFrontier
-  reading-end i f z g s a b p h = g .pass .done p (omega arith) h ∙ rw (b p h, a, safe-in n H p w h)
+  unfolding ReadsFrontiers
+  reading-end i f z g p h = g .pass .done p (omega arith) h

@@ -3,17 +3,17 @@ use mathlib.Core.Path.{_≡_}
 use mathlib.Core.Logic.{_≢_}
 use mathlib.Core.Bool.{Bool, _||_}
 use mathlib.Core.List.{List}
-use Prim.Native.Nat.{ℕ, min, max}
+use Prim.Native.Nat.{ℕ, _<_, min, max}
 use lib.Dec.{ltb}
 use Rattle.types.specs.Value.{ticksOf}
 use Rattle.words.specs.Words.{tickOf, ticksIn, horizonsOf, inboundAt, inboundsOf}
 use Rattle.rules.specs.Base.{upTo}
-use Rattle.rules.specs.State.{Event, State}
+use Rattle.rules.specs.State.{Event}
 use Rattle.rules.specs.Frontiers.{anyEligible}
 use Rattle.rules.specs.Refresh.{least, raised}
 use Rattle.rules.specs.Step.{anyRaised}
 use Rattle.inbound.specs.Inbound.{frontierIn}
-use Rattle.frontiers.specs.Tables.{FirstTicks, FrontierTable}
+use Rattle.frontiers.specs.Tables.{FirstTicks}
 use Rattle.frontiers.specs.declared.Raised.{Raised}
 
 -- "min(safe(p), first pending tick or H)".
@@ -36,9 +36,9 @@ pub record RaisedHorizons (n : ℕ) (f : List ℕ) (H : ℕ) (w u : List ℕ) (r
   pub tick : ticksOf (r .tick) ≡ least H (ticksIn n f)
   pub horizon : ticksOf (r .horizon) ≡ least H (horizonsOf n u)
 
--- With the record and the first ticks of a state, u is its table of input frontiers.
+-- The table u holds the input frontiers of the first n processes.
 unfoldable pub ReadsFrontiers : ℕ → ℕ → List ℕ → List ℕ → List ℕ → Type 0
-ReadsFrontiers n H w f u = (s : State) → s .inbound ≡ inboundsOf n w → FirstTicks n (s .pending) H f → FrontierTable n s H u
+ReadsFrontiers n H w f u = (p : ℕ) → p < n → tickOf u p ≡ lesser w H f p
 
 -- "an event is eligible": where f has the first ticks of these events, r is the rule's answer for the first n processes.
 unfoldable pub Eligible : ℕ → ℕ → List ℕ → List ℕ → Bool → Type 0

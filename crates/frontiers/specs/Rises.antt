@@ -27,7 +27,7 @@ pub record RaisedEdge (i L H : ℕ) (table w u : List ℕ) (r : ℕ) : Type 0 wh
 unfoldable pub Sources : ℕ → ℕ → List ℕ → Type 0
 Sources n m w = (i : ℕ) → i < m → edgeAt w i .source < n
 
--- What the pass that raises the bounds of m edges asks: its words, and that every edge joins two of n processes.
+-- What the pass that raises the bounds of m edges asks: its words, and that every edge leads from one of n processes to one of 64.
 pub record CanRaise (m n : ℕ) (edges first processes : List ℕ) : Type 0 where
   pub few : m ≤ 512
   pub few-processes : n ≤ 64

@@ -5,9 +5,8 @@ use Prim.Native.Nat.{ℕ, _+_, _<_, min}
 use lib.Dec.{ltb, eqb}
 use Rattle.words.specs.Words.{tickOf}
 use Rattle.rules.specs.Base.{if_then_else_}
-use Rattle.rules.specs.State.{Event, State, maxTick}
+use Rattle.rules.specs.State.{Event, maxTick}
 use Rattle.rules.specs.Pending.{firstTick}
-use Rattle.rules.specs.Step.{inputFrontier}
 
 -- From w to u, the tick of process d becomes what f makes of it, and the others stay.
 unfoldable pub Changed : ℕ → (ℕ → ℕ) → List ℕ → List ℕ → Type 0
@@ -16,10 +15,6 @@ Changed d f w u = (p : ℕ) → p < 64 → tickOf u p ≡ (if eqb d p then f (ti
 -- The table w holds the first pending tick of the first n processes, or d.
 unfoldable pub FirstTicks : ℕ → List Event → ℕ → List ℕ → Type 0
 FirstTicks n q d w = (p : ℕ) → p < n → tickOf w p ≡ firstTick q p d
-
--- The table w holds the input frontiers of the first n processes of the state s: "min(safe(p), first pending tick or H)".
-unfoldable pub FrontierTable : ℕ → State → ℕ → List ℕ → Type 0
-FrontierTable n s H w = (p : ℕ) → p < n → tickOf w p ≡ inputFrontier s H p
 
 -- The event's destination gets its tick.
 abbrev pub FirstTickSet : Event → List ℕ → List ℕ → Type 0

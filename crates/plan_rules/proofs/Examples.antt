@@ -19,6 +19,7 @@ examples = record {
   c8-accepted = refl;
   c9 = refl;
   c10 = refl;
+  chain = refl;
   spent-at-hand-back = refl;
   long-payload = refl;
   second-reply = refl;

@@ -60,6 +60,8 @@ pub record Examples : Type 0 where
   pub c8-accepted : rehearsed (edges-only 2 (2 ^ 127) (2 ^ 128 - 2) bothWays) ≡ listed (bytes "end 0 fffffffffffffffffffffffffffffffe 2 2\n")
   pub c9 : rehearsed (plan 2 (2 ^ 127) (2 ^ 128 - 2) budget (edge 0 1 ∷ []) (message 0 0 (2 ^ 128 - 2) ∷ []) (reply 0 (message 0 1 (2 ^ 128 - 1) ∷ []) ∷ [])) ≡ listed (bytes "end 31 00000000000000000000000000000000 0 0\n")
   pub c10 : rehearsed (pair (message 1 1 2 ∷ message 0 1 2 ∷ []) []) ≡ listed (bytes "1 00000000000000000000000000000002 0\n1 00000000000000000000000000000002 1\nend 0 00000000000000000000000000000009 6 6\n")
+  -- A.3, "Frontiers before the advance still decide": along 0→1→2 three null messages. With frontiers read anew at each edge, the first advance would raise both bounds to H, and there would be two.
+  pub chain : rehearsed (edges-only 3 3 9 (edge 0 1 ∷ edge 1 2 ∷ [])) ≡ listed (bytes "end 0 00000000000000000000000000000009 3 3\n")
   -- 24 at hand back: its batch was handled, so it is listed.
   pub spent-at-hand-back : rehearsed (pairWith 1 (message 0 1 2 ∷ message 0 1 2 ∷ []) []) ≡ listed (bytes "1 00000000000000000000000000000002 0\nend 24 00000000000000000000000000000000 1 0\n")
   -- 26: a payload of 17 in the reply.

@@ -1,4 +1,4 @@
--- Computed cases beside C1 to C10, for what these do not notice of slips in document 01 (in what a refusal leaves, in the order of two causes, in what is counted) and in A.2 of document 02 (in the record of least inbound bounds).
+-- Computed cases beside C1 to C10, for what these do not notice of slips in document 01 (in what a refusal leaves, in the order of two causes, in what is counted) and in A.2 and A.3 of document 02 (in the record of least inbound bounds, and in what is read from it while bounds are written).
 -- An input for each refusal 1 to 36, and for each limit, is run by programs, against the Rust where it has an answer (docs/WHERE.md).
 use mathlib.Core.Path.{_≡_}
 use mathlib.Core.Bool.{true, false}

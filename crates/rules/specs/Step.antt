@@ -105,13 +105,18 @@ takenAt s horizon budget = takeEligible (s .inbound) (suc horizon) (upTo (s .n))
 abbrev pub spent : State → ℕ → ℕ → Bool
 spent s horizon budget = leb budget (s .used) && anyEligible (s .inbound) (suc horizon) (s .pending) (upTo (s .n))
 
--- "If any was taken, answer the batch. Else if used >= budget and an event is eligible, 24. Else advance". 24 leaves "run closed, otherwise as reached".
+-- "Else if used >= budget and an event is eligible, 24. Else advance": a is what the advance gives. 24 leaves "run closed, otherwise as reached".
+abbrev pub unlessSpent : State → Counters → ℕ → ℕ → Out → Out
+unlessSpent s c horizon budget a =
+    if spent s horizon budget then out (Refused (Answers.EventBudgetExceeded budget)) (closed s) c
+    else a
+
+-- "If any was taken, answer the batch."
 unfoldable pub stepRun : State → Counters → ℕ → ℕ → Out
 stepRun s c horizon budget =
     let t = takenAt s horizon budget in
     if nonEmpty (t .events) then out (Batch (t .events) (s .gvt)) (withBatch s (t .events) (t .left)) c
-    else if spent s horizon budget then out (Refused (Answers.EventBudgetExceeded budget)) (closed s) c
-    else advance s c horizon
+    else unlessSpent s c horizon budget (advance s c horizon)
 
 -- A run that is open has a horizon: 11 was checked.
 unfoldable pub stepAt : State → Counters → Stored → Out

@@ -5,12 +5,11 @@ use mathlib.Core.List.{List}
 use Prim.Native.Nat.{ℕ}
 use Rattle.types.specs.Value.{ticksOf}
 use Rattle.records.specs.Records.{eventsOf}
-use Rattle.rules.specs.Base.{if_then_else_, nonEmpty}
+use Rattle.rules.specs.Base.{nonEmpty}
 use Rattle.rules.specs.State as R
-use Rattle.rules.specs.State.{Event, State, closed}
-use Rattle.rules.specs.Answers as A
+use Rattle.rules.specs.State.{Event, State}
 use Rattle.rules.specs.Rows.{Out, out}
-use Rattle.rules.specs.Step.{takenAt, spent, countAdvance}
+use Rattle.rules.specs.Step.{takenAt, unlessSpent, countAdvance}
 use Rattle.rules.specs.InPlace.{advanceInPlace}
 use Rattle.rules.proofs.Cases
 use Rattle.state.specs.declared.Header.{Header}
@@ -27,11 +26,9 @@ pub record NothingTaken (s : State) (h b : ℕ) : Type 0 where
   pub steps : Cases.Steps s h b
   pub none-taken : nonEmpty (takenAt s h b .events) ≡ false
 
--- "Else if used >= budget and an event is eligible, 24. Else advance": as A.3 has it, bounds written one by one.
+-- 24, or an advance as A.3 has it, bounds written one by one.
 unfoldable pub withoutBatch : State → R.Counters → ℕ → ℕ → Out
-withoutBatch s c horizon budget =
-    if spent s horizon budget then out (A.Refused (A.EventBudgetExceeded budget)) (closed s) c
-    else advanceInPlace s c horizon
+withoutBatch s c horizon budget = unlessSpent s c horizon budget (advanceInPlace s c horizon)
 
 -- Answer, state and counters are those, whatever the batch is; and the answer is none that leaves the state as given.
 pub record AdvancesOrRefuses (h : Header) (c : Counters) (edges pending processes : List ℕ) (r : CoreResult) (edges′ processes′ : List ℕ) : Type 0 where
