@@ -24,7 +24,8 @@ use Rattle.rules.proofs.InPlace.{raised-at-once}
 use Rattle.inbound.specs.Inbound.{LowersInbound, RecordsInbound, Destinations}
 use Rattle.inbound.proofs.Recording.{Recording, recording-start, recording-more, recording-end, safe-in}
 use Rattle.frontiers.specs.Tables.{FirstTicks, capped}
-use Rattle.frontiers.specs.Rises.{raisedEdge, RaisedEdge, RaisesInPlace, RaisesBounds, Sources}
+use Rattle.frontiers.specs.declared.SourceBound.{SourceBound}
+use Rattle.frontiers.specs.Rises.{BoundOf, FindsBound, raisedTo, RaisedEdge, RaisesInPlace, RaisesBounds, Sources}
 use Rattle.frontiers.specs.InputFrontiers.{ReadsFrontiers}
 
 abbrev oneIf : Bool → ℕ
@@ -51,25 +52,29 @@ edge-bound : (w : List ℕ) (i : ℕ) → edgeAt w i .bound ≡ tickAt w (4 * i 
 unfolding edgeAt
 edge-bound w i = refl
 
-module _ (w table : List ℕ) (i L H : ℕ) (front to : SimTime) (ef : ticksOf front ≡ tickAt table (2 * getD w (4 * i) 0)) (et : ticksOf to ≡ capped H L (ticksOf front)) where
-  target : ticksOf to ≡ capped H L (tickOf table (edgeAt w i .source))
-  target = et ∙ ap (capped H L) (ef ∙ ap (λ (x : ℕ). tickAt table (2 * x)) (sym (edge-from w i)))
+-- What is found for an edge: its source is that of the last, or its bound is found anew.
+module _ (i L H : ℕ) (table w : List ℕ) (last : SourceBound) where
+  pub found-before : getD w (4 * i) 0 ≡ last .source → FindsBound i L H table w last last
+  found-before e = record { source = sym e ∙ sym (edge-from w i); bound = λ known. known }
 
-  edge-up : 4 * i + 4 ≤ length w → edgeAt w i .bound < ticksOf to → RaisedEdge i L H table w (putTick w (4 * i + 2) to) 1
-  unfolding raisedEdge
+  pub found-anew : (front to : SimTime) → ticksOf front ≡ tickAt table (2 * getD w (4 * i) 0) → ticksOf to ≡ capped H L (ticksOf front) → FindsBound i L H table w last (record { source = getD w (4 * i) 0; bound = to })
+  unfolding BoundOf
+  found-anew front to ef et = record { source = sym (edge-from w i); bound = λ _ _. et ∙ ap (capped H L) ef }
+
+module _ (w : List ℕ) (i : ℕ) (to : SimTime) where
+  edge-up : 4 * i + 4 ≤ length w → edgeAt w i .bound < ticksOf to → RaisedEdge i (ticksOf to) w (putTick w (4 * i + 2) to) 1
   edge-up l h =
       let same : edgeAt (putTick w (4 * i + 2) to) i ≡ record { source = edgeAt w i .source; destination = edgeAt w i .destination; bound = ticksOf to } = bound-same w i to l in
-      let goal : ticksOf to ≡ max (edgeAt w i .bound) (capped H L (tickOf table (edgeAt w i .source))) = omega (arith, target) in
+      let goal : ticksOf to ≡ max (edgeAt w i .bound) (ticksOf to) = omega arith in
       record {
         here = same ∙ (λ j. record { source = edgeAt w i .source; destination = edgeAt w i .destination; bound = goal j });
         others = λ k ne. bound-other w i k to ne;
         counted = one-true _ (ap (λ (e : Edge). ltb (edgeAt w i .bound) (e .bound)) same ∙ lt-ltb (edgeAt w i .bound) (ticksOf to) h);
       }
 
-  edge-kept : ticksOf to ≤ edgeAt w i .bound → RaisedEdge i L H table w w 0
-  unfolding raisedEdge
+  edge-kept : ticksOf to ≤ edgeAt w i .bound → RaisedEdge i (ticksOf to) w w 0
   edge-kept h =
-      let goal : edgeAt w i .bound ≡ max (edgeAt w i .bound) (capped H L (tickOf table (edgeAt w i .source))) = omega (arith, target) in
+      let goal : edgeAt w i .bound ≡ max (edgeAt w i .bound) (ticksOf to) = omega arith in
       record {
         here = λ j. record { source = edgeAt w i .source; destination = edgeAt w i .destination; bound = goal j };
         others = λ k ne. refl;
@@ -77,21 +82,25 @@ module _ (w table : List ℕ) (i L H : ℕ) (front to : SimTime) (ef : ticksOf f
       }
 
   module _ (u : List ℕ) (r : Bool) (l : 4 * i + 4 ≤ length w) (s : RaisesTick w (4 * i + 2) to u r) where
-    pub edge-rises : r ≡ true → RaisedEdge i L H table w u 1
-    edge-rises = by-rise w (4 * i + 2) to u r s (λ v b. b ≡ true → RaisedEdge i L H table w v 1) (λ h _. edge-up l (rw (edge-bound w i) h)) (λ h e. not-both e refl)
+    pub edge-rises : r ≡ true → RaisedEdge i (ticksOf to) w u 1
+    edge-rises = by-rise w (4 * i + 2) to u r s (λ v b. b ≡ true → RaisedEdge i (ticksOf to) w v 1) (λ h _. edge-up l (rw (edge-bound w i) h)) (λ h e. not-both e refl)
 
-    pub edge-stays : r ≡ false → RaisedEdge i L H table w u 0
-    edge-stays = by-rise w (4 * i + 2) to u r s (λ v b. b ≡ false → RaisedEdge i L H table w v 0) (λ h e. not-both refl e) (λ h _. edge-kept (rw (edge-bound w i) h))
+    pub edge-stays : r ≡ false → RaisedEdge i (ticksOf to) w u 0
+    edge-stays = by-rise w (4 * i + 2) to u r s (λ v b. b ≡ false → RaisedEdge i (ticksOf to) w v 0) (λ h e. not-both refl e) (λ h _. edge-kept (rw (edge-bound w i) h))
 
 one-most : (b : Bool) → oneIf b ≤ 1
 one-most b = by-test (λ (x : ℕ). x ≤ 1) (λ e. omega arith) (λ e. omega arith)
 
-pub edge-most : (i L H : ℕ) (table w u : List ℕ) (r : ℕ) → RaisedEdge i L H table w u r → r ≤ 1
-edge-most i L H table w u r l = rw (l .counted) (one-most _)
+pub edge-most : (i t : ℕ) (w u : List ℕ) (r : ℕ) → RaisedEdge i t w u r → r ≤ 1
+edge-most i t w u r l = rw (l .counted) (one-most _)
 
 count-step : (f g : ℕ → Edge) (i m : ℕ) → 0 < i → i ≤ m → countRaised (tab f (i - 1) (m - (i - 1))) (tab g (i - 1) (m - (i - 1))) ≡ (if ltb (f (i - 1) .bound) (g (i - 1) .bound) then 1 else 0) + countRaised (tab f i (m - i)) (tab g i (m - i))
 unfolding countRaised
 count-step f g i m h l = rw (tab-step f i m h l, tab-step g i m h l)
+
+-- An edge with its bound raised by the input frontier that the table has of its source.
+unfoldable pub raisedEdge : ℕ → ℕ → List ℕ → Edge → Edge
+raisedEdge L H table e = raisedTo (capped H L (tickOf table (e .source))) e
 
 -- What the table says of an edge is what the rules say, where its input frontiers were read by the record and the first ticks of the state.
 module _ (n : ℕ) (s : State) (L H : ℕ) (first processes table : List ℕ) (look : s .lookahead ≡ L) (kept : s .inbound ≡ inboundsOf n processes) (firsts : FirstTicks n (s .pending) H first) (front : ReadsFrontiers n H processes first table) where
@@ -135,14 +144,16 @@ module _ (m L H : ℕ) (table w₀ : List ℕ) where
       let k : edgeAt w₀ (i - 1) .source < n = s (i - 1) (omega (arith, f .within)) in
       rw (← edge-from w (i - 1), e) (omega arith)
 
-  pub lifting-more : (i : ℕ) (w u : List ℕ) (r q : ℕ) → 0 < i → Lifting i w r → RaisedEdge (i - 1) L H table w u q → Lifting (i - 1) u (r + q)
-  lifting-more i w u r q h f l =
+  -- Edge i - 1 rises to what its source's input frontier makes of it.
+  pub lifting-more : (i t : ℕ) (w u : List ℕ) (r q : ℕ) → 0 < i → Lifting i w r → t ≡ capped H L (tickOf table (edgeAt w (i - 1) .source)) → RaisedEdge (i - 1) t w u q → Lifting (i - 1) u (r + q)
+  unfolding raisedEdge
+  lifting-more i t w u r q h f et l =
       let same : tab (edgeAt u) i (m - i) ≡ tab (edgeAt w) i (m - i) = tab-cong _ _ i (m - i) (λ k x y. l .others k (λ z. omega arith)) in
       let e : edgeAt w (i - 1) ≡ edgeAt w₀ (i - 1) = f .pass .ahead (i - 1) (omega arith) in
       record {
         within = omega (arith, f .within);
-        room = omega (arith, f .room, edge-most (i - 1) L H table w u q l);
-        pass = pass-more edgeAt liftedAt m i w₀ w u h (f .pass) (l .here) (l .others);
+        room = omega (arith, f .room, edge-most (i - 1) t w u q l);
+        pass = pass-more edgeAt liftedAt m i w₀ w u h (f .pass) (l .here ∙ ap (λ (x : ℕ). raisedTo x (edgeAt w (i - 1))) et) (l .others);
         counted = add-comm r q ∙ rw (f .counted, l .counted, e, ← same) (sym (count-step (edgeAt w₀) (edgeAt u) i m h (f .within)));
       }
 
@@ -163,37 +174,48 @@ module _ (m L H : ℕ) (table w₀ : List ℕ) where
   unfolding RaisesInPlace
   lifting-end n first processes i w r o c front f = risen n first processes i w r (omega arith) c front f
 
--- Each edge goes on record when its bound is raised: the record is that of the raised edges.
+-- Each edge goes on record when its bound is raised: the record is that of the raised edges. What was found for the last edge's source is known.
 module _ (m n L H : ℕ) (table w₀ p₀ : List ℕ) where
-  pub record Raising (i : ℕ) (w p : List ℕ) (r : ℕ) : Type 0 where
+  pub record Raising (i : ℕ) (w p : List ℕ) (r : ℕ) (last : SourceBound) : Type 0 where
     pub lifting : Lifting m L H table w₀ i w r
     pub recording : Recording w m n p₀ i p
+    pub known : BoundOf L H table last
 
-  pub raising-start : (v : List ℕ) → RecordsInbound n [] v p₀ → Raising m w₀ p₀ 0
-  raising-start v q = record { lifting = lifting-start m L H table w₀; recording = recording-start w₀ m n p₀ v q }
+  pub raising-start : (v : List ℕ) (b : SimTime) → RecordsInbound n [] v p₀ → Raising m w₀ p₀ 0 (record { source = 64; bound = b })
+  unfolding BoundOf
+  raising-start v b q = record { lifting = lifting-start m L H table w₀; recording = recording-start w₀ m n p₀ v q; known = λ l. absurd (omega arith) }
+
+  pub source-of : (i : ℕ) (w p : List ℕ) (r : ℕ) (last : SourceBound) → n ≤ 64 → 0 < i → Raising i w p r last → Sources n m w₀ → getD w (4 * (i - 1)) 0 < 64
+  source-of i w p r last few h f s = source-at m L H table w₀ n i w r few h (f .lifting) s
 
   -- Raising one edge leaves those behind it on record.
-  still-recorded : (i : ℕ) (w u p : List ℕ) (q : ℕ) → 0 < i → Recording w m n p₀ i p → RaisedEdge (i - 1) L H table w u q → Recording u m n p₀ i p
-  still-recorded i w u p q h r l =
+  still-recorded : (i t : ℕ) (w u p : List ℕ) (q : ℕ) → 0 < i → Recording w m n p₀ i p → RaisedEdge (i - 1) t w u q → Recording u m n p₀ i p
+  still-recorded i t w u p q h r l =
       let same : tab (edgeAt u) i (m - i) ≡ tab (edgeAt w) i (m - i) = tab-cong _ _ i (m - i) (λ k x y. l .others k (λ z. omega arith)) in
       record { within = r .within; records = rw same (r .records) }
 
-  pub raising-more : (i : ℕ) (w u p v : List ℕ) (r q : ℕ) → 0 < i → Raising i w p r → RaisedEdge (i - 1) L H table w u q → LowersInbound (edgeAt u (i - 1)) p v → Raising (i - 1) u v (r + q)
-  raising-more i w u p v r q h f l s = record {
-    lifting = lifting-more m L H table w₀ i w u r q h (f .lifting) l;
-    recording = recording-more u m n p₀ i p v h (still-recorded i w u p q h (f .recording) l) s;
-  }
+  -- What is found for edge i - 1.
+  module _ (i : ℕ) (w p : List ℕ) (r : ℕ) (last b : SourceBound) (few : n ≤ 64) (c : Sources n m w₀) (h : 0 < i) (f : Raising i w p r last) (found : FindsBound (i - 1) L H table w last b) where
+    bound-found : ticksOf (b .bound) ≡ capped H L (tickOf table (edgeAt w (i - 1) .source))
+    unfolding BoundOf
+    bound-found =
+        let k : b .source < 64 = rw (found .source ∙ edge-from w (i - 1)) (source-of i w p r last few h f c) in
+        found .bound (f .known) k ∙ ap (λ (x : ℕ). capped H L (tickOf table x)) (found .source)
 
-  pub raising-end : (first v : List ℕ) (i : ℕ) (w p : List ℕ) (r : ℕ) → i ≤ 0 → Sources n m w₀ → ReadsFrontiers n H v first table → RecordsInbound n [] v p₀ → Raising i w p r → RaisesBounds m n L H first w₀ v w p r
-  raising-end first v i w p r o c front q f = record { in-place = lifting-end m L H table w₀ n first v i w r o c front (f .lifting); recorded = recording-end w m n p₀ v i p o q (f .recording) }
+    pub raising-more : (u v : List ℕ) (q : ℕ) → RaisedEdge (i - 1) (ticksOf (b .bound)) w u q → LowersInbound (edgeAt u (i - 1)) p v → Raising (i - 1) u v (r + q) b
+    raising-more u v q l s = record {
+      lifting = lifting-more m L H table w₀ i (ticksOf (b .bound)) w u r q h (f .lifting) bound-found l;
+      recording = recording-more u m n p₀ i p v h (still-recorded i (ticksOf (b .bound)) w u p q h (f .recording) l) s;
+      known = found .bound (f .known);
+    }
 
-  pub source-of : (i : ℕ) (w p : List ℕ) (r : ℕ) → n ≤ 64 → 0 < i → Raising i w p r → Sources n m w₀ → getD w (4 * (i - 1)) 0 < 64
-  source-of i w p r few h f s = source-at m L H table w₀ n i w r few h (f .lifting) s
+  pub raising-end : (first v : List ℕ) (i : ℕ) (w p : List ℕ) (r : ℕ) (last : SourceBound) → i ≤ 0 → Sources n m w₀ → ReadsFrontiers n H v first table → RecordsInbound n [] v p₀ → Raising i w p r last → RaisesBounds m n L H first w₀ v w p r
+  raising-end first v i w p r last o c front q f = record { in-place = lifting-end m L H table w₀ n first v i w r o c front (f .lifting); recorded = recording-end w m n p₀ v i p o q (f .recording) }
 
   -- The edge that was just raised leads where it led.
-  pub destination-of : (i : ℕ) (w u p : List ℕ) (r q : ℕ) → 0 < i → Raising i w p r → RaisedEdge (i - 1) L H table w u q → Destinations 64 m w₀ → getD u (4 * (i - 1) + 1) 0 < 64
-  unfolding Destinations raisedEdge
-  destination-of i w u p r q h f l d =
+  pub destination-of : (i t : ℕ) (w u p : List ℕ) (r q : ℕ) (last : SourceBound) → 0 < i → Raising i w p r last → RaisedEdge (i - 1) t w u q → Destinations 64 m w₀ → getD u (4 * (i - 1) + 1) 0 < 64
+  unfolding Destinations
+  destination-of i t w u p r q last h f l d =
       let a : edgeAt u (i - 1) .destination ≡ edgeAt w (i - 1) .destination = ap (λ (x : Edge). x .destination) (l .here) in
       let b : edgeAt w (i - 1) .destination ≡ edgeAt w₀ (i - 1) .destination = ap (λ (x : Edge). x .destination) (f .lifting .pass .ahead (i - 1) (omega arith)) in
       rw (← edge-to u (i - 1), a, b) (d (i - 1) (omega (arith, f .lifting .within)))

@@ -9,17 +9,28 @@ use Rattle.records.specs.Records.{edgeAt, edgesOf}
 use Rattle.rules.specs.Base.{if_then_else_}
 use Rattle.rules.specs.State.{Edge, State}
 use Rattle.rules.specs.InPlace.{withEdges, raiseBounds}
+use Rattle.types.specs.Value.{ticksOf}
 use Rattle.words.specs.Words.{tickOf, inboundsOf}
 use Rattle.inbound.specs.Inbound.{RecordsInbound, Destinations}
 use Rattle.frontiers.specs.Tables.{FirstTicks, capped}
+use Rattle.frontiers.specs.declared.SourceBound.{SourceBound}
 
--- An edge with its bound raised by the input frontier that the table has of its source.
-unfoldable pub raisedEdge : ℕ → ℕ → List ℕ → Edge → Edge
-raisedEdge L H table e = record { source = e .source; destination = e .destination; bound = max (e .bound) (capped H L (tickOf table (e .source))) }
+-- What b says of its source, one of 64 processes, is what the input frontier in the table makes of the bounds from it.
+unfoldable pub BoundOf : ℕ → ℕ → List ℕ → SourceBound → Type 0
+BoundOf L H table b = b .source < 64 → ticksOf (b .bound) ≡ capped H L (tickOf table (b .source))
 
--- From w to u, the bound of edge i rises, and the other edges stay; r is 1 if it rose.
-pub record RaisedEdge (i L H : ℕ) (table w u : List ℕ) (r : ℕ) : Type 0 where
-  pub here : edgeAt u i ≡ raisedEdge L H table (edgeAt w i)
+-- r is about the source of edge i of w, and right if what is known of another source is.
+pub record FindsBound (i L H : ℕ) (table w : List ℕ) (last r : SourceBound) : Type 0 where
+  pub source : r .source ≡ edgeAt w i .source
+  pub bound : BoundOf L H table last → BoundOf L H table r
+
+-- An edge with its bound raised to t.
+abbrev pub raisedTo : ℕ → Edge → Edge
+raisedTo t e = record { source = e .source; destination = e .destination; bound = max (e .bound) t }
+
+-- From w to u, the bound of edge i rises to t, and the other edges stay; r is 1 if it rose.
+pub record RaisedEdge (i t : ℕ) (w u : List ℕ) (r : ℕ) : Type 0 where
+  pub here : edgeAt u i ≡ raisedTo t (edgeAt w i)
   pub others : (k : ℕ) → k ≢ i → edgeAt u k ≡ edgeAt w k
   pub counted : r ≡ (if ltb (edgeAt w i .bound) (edgeAt u i .bound) then 1 else 0)
 

@@ -12,7 +12,7 @@ ghost use lib.ListN.{length, getD};
 ghost use Rattle.types.specs.Value.{ticksOf, durationOf};
 ghost use Rattle.records.specs.Records.{eventAt, eventsOf};
 ghost use Rattle.frontiers.specs.Tables.{FirstTicks, FirstTickSet, capped};
-ghost use Rattle.frontiers.specs.Rises.{RaisedEdge, CanRaise, RaisesBounds};
+ghost use Rattle.frontiers.specs.Rises.{FindsBound, RaisedEdge, CanRaise, RaisesBounds};
 ghost use mathlib.Core.Bool.{_||_};
 ghost use Rattle.frontiers.specs.InputFrontiers.{RaisedHorizon, RaisedHorizons, ReadsFrontiers, Eligible};
 
@@ -67,6 +67,48 @@ fn input_frontiers(processes: &[u64], first: &mut [u64], n: usize, top: SimTime)
     }
 }
 
+// What the bounds of the edges from one source rise to.
+pub struct SourceBound {
+    pub source: u64,
+    pub bound: SimTime,
+}
+
+// What the bound of edge i rises to, by the input frontier of its source. Build leaves the edges of a
+// source side by side, so what was found for the last edge often serves.
+fn source_bound(
+    edges: &[u64],
+    i: usize,
+    frontiers: &[u64],
+    lookahead: SimDuration,
+    top: SimTime,
+    last: SourceBound,
+) -> SourceBound
+    requires { ⌜ (4 * i + 4 ≤ length (now edges)) × (128 ≤ length (now frontiers)) × (getD (now edges) (4 * i) 0 < 64) ⌝ }
+    ensures { λ r. ⌜ FindsBound i (durationOf lookahead) (ticksOf top) (now (frontiers .entry)) (now (edges .entry)) last r ⌝ }
+{
+    let from = edges[4 * i];
+    if from == last.source {
+        return last;
+    }
+    let at = (2 * from) as usize;
+    let frontier = words::tick_in(frontiers, at);
+    SourceBound {
+        source: from,
+        bound: advanced_bound(frontier, lookahead, top),
+    }
+}
+
+// The bound of edge i rises to t, or stays; 1 if it rose.
+fn raise_bound(edges: &mut [u64], i: usize, t: SimTime) -> usize
+    requires { ⌜ 4 * i + 4 ≤ length (now edges) ⌝ }
+    ensures { λ r. ⌜ RaisedEdge i (ticksOf t) (now (edges .entry)) (now (edges .exit)) r ⌝ }
+{
+    if words::raise_tick(edges, 4 * i + 2, t) {
+        return 1;
+    }
+    0
+}
+
 // The bounds of an advance, each written when it is found, edge by edge (request A.3); how many rose.
 // Frontiers of before the advance decide: all are read, in the place of the first ticks, before the
 // record that they are read from is made anew, of the bounds as they are written.
@@ -85,34 +127,19 @@ pub fn raise_bounds(
     input_frontiers(processes, first, n, top);
     inbound::reset(processes, n);
     let mut raised: usize = 0;
+    let mut last = SourceBound {
+        source: 64,
+        bound: top,
+    };
     let mut i = count;
     while 0 < i {
         i -= 1;
-        raised += raise_bound(edges, i, first, lookahead, top);
+        last = source_bound(edges, i, first, lookahead, top, last);
+        let bound = last.bound;
+        raised += raise_bound(edges, i, bound);
         inbound::lower(edges, i, processes);
     }
     raised
-}
-
-// The bound of edge i rises, or stays; 1 if it rose.
-fn raise_bound(
-    edges: &mut [u64],
-    i: usize,
-    frontiers: &[u64],
-    lookahead: SimDuration,
-    top: SimTime,
-) -> usize
-    requires { ⌜ (4 * i + 4 ≤ length (now edges)) × (128 ≤ length (now frontiers)) × (getD (now edges) (4 * i) 0 < 64) ⌝ }
-    ensures { λ r. ⌜ RaisedEdge i (durationOf lookahead) (ticksOf top) (now (frontiers .entry)) (now (edges .entry)) (now (edges .exit)) r ⌝ }
-{
-    let from = edges[4 * i];
-    let at = (2 * from) as usize;
-    let frontier = words::tick_in(frontiers, at);
-    let bound = advanced_bound(frontier, lookahead, top);
-    if words::raise_tick(edges, 4 * i + 2, bound) {
-        return 1;
-    }
-    0
 }
 
 // Whether one of the two holds.

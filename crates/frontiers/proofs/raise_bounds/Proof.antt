@@ -8,35 +8,37 @@ use Rattle.frontiers.proofs.raise_bounds.Statement.{statement}
 use Rattle.frontiers.proofs.raise_bounds.Tie as tie
 
 abbrev Inv-loop : tie.InvT-loop
-Inv-loop edges₀ count first n processes₀ lookahead top raised₀ i₀ edges processes raised i =
-    (length edges ≡ length edges₀) × (length processes ≡ 256) × Raising count n (durationOf lookahead) (ticksOf top) first edges₀ processes₀ i edges processes raised
+Inv-loop edges₀ count first n processes₀ lookahead top raised₀ last₀ i₀ edges processes raised last i =
+    (length edges ≡ length edges₀) × (length processes ≡ 256) × Raising count n (durationOf lookahead) (ticksOf top) first edges₀ processes₀ i edges processes raised last
 
 abbrev μ-loop : tie.MeasureT-loop
-μ-loop edges₀ count first n processes₀ lookahead top raised₀ i₀ edges processes raised i = i
+μ-loop edges₀ count first n processes₀ lookahead top raised₀ last₀ i₀ edges processes raised last i = i
 
 loop-holds : tie.Need-loop-holds Inv-loop μ-loop
 loop-holds c = search (raising-start, needs)
 
-raise-bound-requires : tie.Need-raise-bound-requires Inv-loop μ-loop
-raise-bound-requires c κs = search (source-of, needs)
+source-bound-requires : tie.Need-source-bound-requires Inv-loop μ-loop
+source-bound-requires c κs = search (source-of, needs)
 
 add-raised : tie.Need-add-raised Inv-loop μ-loop
-add-raised c = omega (arith, edge-most _ _ _ _ _ _ _ (c .before .before .raise-bound .ensures))
+add-raised c = omega (arith, edge-most _ _ _ _ _ (c .before .before .raise-bound .ensures))
 
 lower-requires : tie.Need-lower-requires Inv-loop μ-loop
 lower-requires c κs =
     let up = c .before .before .before .before in
-    let turn = up .before .before .before in
-    let firsts = turn .before .before .before .before .before .before .before .before in
-    let start = firsts .before .before .before .before .before .before in
-    (search needs, search needs, destination-of _ _ _ _ _ _ _ _ _ _ _ _ _ (turn .loop-test .taken) (turn .before .loop .inv .2) (up .raise-bound .ensures) (start .pre .destinations))
+    let found = up .before .before .before in
+    let turn = found .before .before .before in
+    let start = turn .before .before .before .before .before .before .before .before .before .before .before .before .before .before in
+    (search needs, search needs, destination-of _ _ _ _ _ _ _ _ _ _ _ _ _ _ _ (turn .loop-test .taken) (turn .before .loop .inv .2) (up .raise-bound .ensures) (start .pre .destinations))
 
 loop-again : tie.Need-loop-again Inv-loop μ-loop
 loop-again c =
     let low = c .before .before in
     let up = low .before .before .before .before .before in
-    let turn = up .before .before .before in
-    (search needs, search needs, raising-more _ _ _ _ _ _ _ _ _ _ _ _ _ _ (turn .loop-test .taken) (turn .before .loop .inv .2) (up .raise-bound .ensures) (low .lower .ensures))
+    let found = up .before .before .before in
+    let turn = found .before .before .before in
+    let start = turn .before .before .before .before .before .before .before .before .before .before .before .before .before .before in
+    (search needs, search needs, raising-more _ _ _ _ _ _ _ _ _ _ _ _ (found .source-bound .result) (start .pre .few-processes) (start .pre .sources) (turn .loop-test .taken) (turn .before .loop .inv .2) (found .source-bound .ensures) _ _ _ (up .raise-bound .ensures) (low .lower .ensures))
 
 returns : tie.Need-returns Inv-loop μ-loop
 returns c = search raising-end depth 1
@@ -51,7 +53,8 @@ raise-bounds-spec =
     (λ c κs. search needs)
     loop-holds
     (λ c. search needs)
-    raise-bound-requires
+    source-bound-requires
+    (λ c κs. search needs)
     add-raised
     lower-requires
     (λ c. search needs)
