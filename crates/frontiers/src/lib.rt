@@ -68,9 +68,9 @@ fn input_frontiers(processes: &[u64], first: &mut [u64], n: usize, top: SimTime)
 }
 
 // What the bounds of the edges from one source rise to.
-pub struct SourceBound {
-    pub source: u64,
-    pub bound: SimTime,
+struct SourceBound {
+    source: u64,
+    bound: SimTime,
 }
 
 // What the bound of edge i rises to, by the input frontier of its source. Build leaves the edges of a
@@ -127,6 +127,7 @@ pub fn raise_bounds(
     input_frontiers(processes, first, n, top);
     inbound::reset(processes, n);
     let mut raised: usize = 0;
+    // Nothing is found yet: 64 is no process.
     let mut last = SourceBound {
         source: 64,
         bound: top,
