@@ -19,7 +19,7 @@ use Rattle.frontiers.specs.declared.SourceBound.{SourceBound}
 unfoldable pub BoundOf : ℕ → ℕ → List ℕ → SourceBound → Type 0
 BoundOf L H table b = b .source < 64 → ticksOf (b .bound) ≡ capped H L (tickOf table (b .source))
 
--- r is about the source of edge i of w, and right if what is known of another source is.
+-- r is about the source of edge i of w, and right where `last` is.
 pub record FindsBound (i L H : ℕ) (table w : List ℕ) (last r : SourceBound) : Type 0 where
   pub source : r .source ≡ edgeAt w i .source
   pub bound : BoundOf L H table last → BoundOf L H table r

@@ -1,4 +1,4 @@
--- Document 01, section by section, with the record of A.2 (document 02). Read in this order.
+-- Document 01, section by section, with the record of A.2 and, in InPlace, the advance of A.3 (document 02). Read in this order.
 pub mod Base
 pub mod State
 pub mod Answers
