@@ -17,7 +17,7 @@ static const char *in_words(uint64_t number) {
     switch (number) {
     case DORREZUBI_MALFORMED: return "too short, bytes left over or a set padding bit: 'tools/plan check' says which";
     case DORREZUBI_TOO_LARGE: return "above 16,384 bytes";
-    case DORREZUBI_TOO_LONG: return "floor(horizon / lookahead) is above 65,536";
+    case DORREZUBI_TOO_LONG: return "floor(horizon / least edge lookahead) is above 65,536";
     default: return "listed";
     }
 }

@@ -16,7 +16,8 @@ extern "C" {
 #define DORREZUBI_LISTED 0     /* the listing was written, zeros behind it */
 #define DORREZUBI_MALFORMED 37 /* file too short, bytes left over or a set padding bit; nothing written */
 #define DORREZUBI_TOO_LARGE 38 /* file above 16,384 bytes; nothing written */
-#define DORREZUBI_TOO_LONG 39  /* floor(horizon / lookahead) above 65,536, or a listing longer than the slice; all zeros written */
+#define DORREZUBI_TOO_LONG 39  /* floor(horizon / lookahead) above 65,536, or a listing longer than the slice; all zeros written.
+                                  The lookahead is the least that an edge carries, or the plan's if there is no edge */
 
 /* Rehearses the plan in plan[0 .. plan_length) and writes its listing to listing[0 .. listing_length).
  *
@@ -29,7 +30,7 @@ extern "C" {
  * The listing is text without a zero byte: in a slice of DORREZUBI_LISTING_MAX + 1 bytes it is a C string.
  *
  * No state is kept between calls: it may be called from several threads at once, each with a listing of its own.
- * It needs 160 KB of stack (143,416 bytes were measured). */
+ * It needs 192 KB of stack (162,744 bytes were measured). */
 uint64_t dorrezubi_run_plan(const uint8_t *plan, size_t plan_length, uint8_t *listing, size_t listing_length);
 
 /* NUMBER in the last line. 0: the rehearsal came to its horizon. Numbers that no plan file brings (3, 4, 6, 11 to 13, 19 to 21,
@@ -37,12 +38,13 @@ uint64_t dorrezubi_run_plan(const uint8_t *plan, size_t plan_length, uint8_t *li
 #define DORREZUBI_END_FINISHED 0
 /* Nothing was built, the listing is this line alone: */
 #define DORREZUBI_END_PROCESS_COUNT 1             /* process count 0 or above 64 */
-#define DORREZUBI_END_LOOKAHEAD 2                 /* lookahead 0 */
+#define DORREZUBI_END_LOOKAHEAD 2                 /* the plan's lookahead is 0 */
 #define DORREZUBI_END_EDGES 5                     /* edges not by rising source, or over 512 edges */
 #define DORREZUBI_END_UNKNOWN_SOURCE 7            /* an edge's source is unknown */
 #define DORREZUBI_END_UNKNOWN_DESTINATION 8       /* an edge's destination is unknown */
 #define DORREZUBI_END_SELF_LOOP 9                 /* an edge's destination is its source */
 #define DORREZUBI_END_EDGE_TWICE 10               /* an edge stands there twice */
+#define DORREZUBI_END_EDGE_LOOKAHEAD 40           /* an edge's lookahead is 0 */
 /* An initial event was refused, or the horizon; nothing was run: */
 #define DORREZUBI_END_INITIAL_SOURCE 14           /* initial source unknown */
 #define DORREZUBI_END_INITIAL_DESTINATION 15      /* initial destination unknown */
@@ -57,8 +59,8 @@ uint64_t dorrezubi_run_plan(const uint8_t *plan, size_t plan_length, uint8_t *li
 #define DORREZUBI_END_EMISSION_SOURCE 28          /* emission's source is not its emitter */
 #define DORREZUBI_END_EMISSION_DESTINATION 29     /* emission to an unknown process */
 #define DORREZUBI_END_EMISSION_ROUTE 30           /* emission without a route */
-#define DORREZUBI_END_LOOKAHEAD_OVERFLOW 31       /* event tick + lookahead above 2^128 - 1 */
-#define DORREZUBI_END_EMISSION_EARLY 32           /* emission below its minimum: inside the lookahead, or before its event */
+#define DORREZUBI_END_LOOKAHEAD_OVERFLOW 31       /* event tick + the edge's lookahead above 2^128 - 1 */
+#define DORREZUBI_END_EMISSION_EARLY 32           /* emission below its minimum: inside the edge's lookahead, or before its event */
 
 #ifdef __cplusplus
 }

@@ -19,7 +19,7 @@ const NUMBER: usize = 1;
 
 const TICK: usize = 2;
 
-const EDGE: usize = 4;
+const EDGE: usize = 6;
 
 const EVENT: usize = 8;
 
@@ -98,11 +98,12 @@ fn read_name(answer: ReadAnswer) -> usize {
 }
 
 fn put_edge(out: &mut [u8; ROOM], at: usize, w: &[u64]) -> usize
-    requires { ⌜ 4 ≤ length (now w) ⌝ }
+    requires { ⌜ 6 ≤ length (now w) ⌝ }
 {
     let mut end = text_output::put_next(out, at, b' ', w[0]);
     end = text_output::put_next(out, end, b':', w[1]);
-    text_output::put_next_tick(out, end, b':', words::tick_in(w, 2))
+    end = text_output::put_next_tick(out, end, b':', words::tick_in(w, 2));
+    text_output::put_next_tick(out, end, b':', words::tick_in(w, 4))
 }
 
 // The digits of so many bytes of the word, at most all.

@@ -43,6 +43,7 @@ pub fn build_number(answer: BuildAnswer) -> u64
         BuildAnswer::UnknownTopologyDestination(_, _) => 8,
         BuildAnswer::SelfLoop(_) => 9,
         BuildAnswer::DuplicateNeighbor(_, _) => 10,
+        BuildAnswer::InvalidEdgeLookahead => 40,
     }
 }
 
@@ -64,6 +65,7 @@ pub fn build_values(answer: BuildAnswer) -> Values
         BuildAnswer::UnknownTopologyDestination(p, d) => Values::Ids(p, d),
         BuildAnswer::SelfLoop(p) => Values::Id(p),
         BuildAnswer::DuplicateNeighbor(p, d) => Values::Ids(p, d),
+        BuildAnswer::InvalidEdgeLookahead => Values::Nothing,
     }
 }
 

@@ -35,11 +35,21 @@ pub extern "C" fn timed_cores<'a>(
     sources: &'a [u32],
     counts: &'a [u64],
     destinations: &'a [u32],
+    lookaheads: &'a [u64],
     words: &'a [u64],
     out: &mut [u64],
 ) -> u64 {
     let span = SimDuration::from_ticks(0, lookahead);
-    let done = call_list::rehearse(n, span, ids, sources, counts, destinations, words);
+    let done = call_list::rehearse(
+        n,
+        span,
+        ids,
+        sources,
+        counts,
+        destinations,
+        lookaheads,
+        words,
+    );
     let state = done.state;
     let head = state.head;
     let counters = done.counters;
@@ -75,6 +85,7 @@ pub extern "C" fn timed_calls<'a>(
     sources: &'a [u32],
     counts: &'a [u64],
     destinations: &'a [u32],
+    lookaheads: &'a [u64],
     words: &'a [u64],
     out: &mut [u64],
 ) -> u64 {
@@ -87,7 +98,16 @@ pub extern "C" fn timed_calls<'a>(
         worker_count: 0,
     };
     let span = SimDuration::from_ticks(0, lookahead);
-    let built = runtime::build(n, span, ids, sources, counts, destinations, none);
+    let built = runtime::build(
+        n,
+        span,
+        ids,
+        sources,
+        counts,
+        destinations,
+        lookaheads,
+        none,
+    );
     let answer = built.answer;
     if let BuildAnswer::Accepted = answer {
         let state = built.state;

@@ -23,6 +23,7 @@ use Rattle.rules.proofs.Shape.{Joined, Shaped, shaped, passes-11}
 use Rattle.rules.proofs.Built.{noughts, makes}
 use Rattle.inbound.specs.Inbound.{RecordsInbound, Destinations}
 use Rattle.inbound.proofs.Recording.{inbounds-made}
+use Rattle.build_topology.specs.Lookaheads.{lookaheadsFor, targetsFor}
 use Rattle.build_topology.specs.Checks.{RowsWellFormed}
 use Rattle.build_topology.proofs.Sums.{fit-few, fit-fitting}
 use Rattle.build_edges.specs.Written.{Writable, WritesEdges}
@@ -48,9 +49,9 @@ noughts-made i (suc n) = ap (λ (l : List ℕ). 0 ∷ l) (noughts-made (suc i) n
 abbrev fresh : ℕ → SimDuration → ℕ → Header
 fresh n L edges = record { n = n; lookahead = L; edges = edges; pending = 0; batch = 0; next = 0; gvt = record { hi = 0; lo = 0 }; stored = false; horizon = record { hi = 0; lo = 0 }; budget = 0; used = 0; initial = true; running = false; poisoned = false }
 
-module _ (n : ℕ) (L : SimDuration) (sources counts ds w z : List ℕ) (i : CanInitialize n (durationOf L) sources counts ds w z) where
+module _ (n : ℕ) (L : SimDuration) (sources counts ds ws w z : List ℕ) (i : CanInitialize n (durationOf L) sources counts ds ws w z) where
   abbrev a : Setup
-  a = setup n (durationOf L) [] sources counts ds
+  a = setup n (durationOf L) [] sources counts ds (lookaheadsFor ds ws)
 
   shape : Shaped (built a)
   shape = shaped (built a) (i .passes)
@@ -62,11 +63,11 @@ module _ (n : ℕ) (L : SimDuration) (sources counts ds w z : List ℕ) (i : Can
   pub table-words : length z ≡ 256
   table-words = rw (i .blank)
 
-  pub edge-words : (u : List ℕ) → length u ≡ length w → 4 * length ds ≤ length u
+  pub edge-words : (u : List ℕ) → length u ≡ length w → 6 * length ds ≤ length u
   edge-words u l = omega (arith, i .writable .room)
 
   -- The edges are written.
-  module _ (u : List ℕ) (e : WritesEdges sources counts ds (durationOf L) w u) where
+  module _ (u : List ℕ) (e : WritesEdges sources counts ds ws w u) where
     joined : All (Joined n) (edgesOf (length ds) u)
     unfolding built
     joined = rw (e .edges) (shape .wired .joined)
@@ -82,10 +83,10 @@ module _ (n : ℕ) (L : SimDuration) (sources counts ds w z : List ℕ) (i : Can
           tab-cong (tickOf y) (λ _. 0) 0 n (λ p g h. r .horizons p (omega (arith, few)) ∙ rw (i .blank) (tick-nought 256 (2 * p)))
           ∙ noughts-made 0 n
 
-      record-made : inboundsOf n y ≡ inboundOf n (Build.edgesOf (durationOf L) sources counts ds)
+      record-made : inboundsOf n y ≡ inboundOf n (Build.edgesOf sources counts (targetsFor ds ws))
       record-made = inbounds-made n (edgesOf (length ds) u) z y r ∙ ap (inboundOf n) (e .edges)
 
-      pub laid : Initializes n (durationOf L) sources counts ds w u y (fresh n L (length ds))
+      pub laid : Initializes n (durationOf L) sources counts ds ws w u y (fresh n L (length ds))
       unfolding built tab halves upTo
       laid = record {
         state = λ ids P B j. record { n = n; lookahead = durationOf L; edges = e .edges j; pending = []; next = 0; horizons = horizons-nought j; inbound = record-made j; gvt = 0; stored = unset; used = 0; batch = []; initial = true; running = false; poisoned = false };
@@ -93,21 +94,24 @@ module _ (n : ℕ) (L : SimDuration) (sources counts ds w z : List ℕ) (i : Can
       }
 
 -- What build accepted can be made.
-module _ (n L : ℕ) (ids sources counts ds : List ℕ) where
-  fits : malformedRows (setup n L ids sources counts ds) ≡ false → RowsWellFormed sources counts ds true
+module _ (n L : ℕ) (ids sources counts ds ws : List ℕ) where
+  abbrev whole : List ℕ → Setup
+  whole ps = setup n L ps sources counts ds (lookaheadsFor ds ws)
+
+  fits : malformedRows (whole ids) ≡ false → RowsWellFormed sources counts ds ws true
   unfolding malformedRows
   fits e = record { of-setup = λ n L ids. sym (ap not e) }
 
-  writable : (c : Counters) (edges : List ℕ) → build (setup n L ids sources counts ds) c .answer ≡ Accepted → length edges ≡ 2048 → Writable sources counts ds edges
+  writable : (c : Counters) (edges : List ℕ) → build (whole ids) c .answer ≡ Accepted → length edges ≡ 3072 → Writable sources counts ds ws edges
   writable c edges e l =
-      let p = passed-all (setup n L ids sources counts ds) c e in
+      let p = passed-all (whole ids) c e in
       let fit = fits (p .1 .1 .1 .1 .0) in
-      let f = fit-fitting 0 sources counts ds (omega arith) fit in
-      record { paired = f .paired; used-up = f .used-up; room = omega (arith, fit-few 0 sources counts ds (omega arith) fit) }
+      let f = fit-fitting 0 sources counts ds ws (omega arith) fit in
+      record { paired = f .paired; used-up = f .used-up; beside = f .beside; room = omega (arith, fit-few 0 sources counts ds ws (omega arith) fit) }
 
-  without-ids : foreign (built (setup n L ids sources counts ds)) ≡ false → foreign (built (setup n L [] sources counts ds)) ≡ false
+  without-ids : foreign (built (whole ids)) ≡ false → foreign (built (whole [])) ≡ false
   unfolding built
   without-ids p = p
 
-  pub can-initialize : (c : Counters) (edges : List ℕ) → build (setup n L ids sources counts ds) c .answer ≡ Accepted → length edges ≡ 2048 → CanInitialize n L sources counts ds edges (zeroes 256)
-  can-initialize c edges e l = record { writable = writable c edges e l; passes = without-ids (passes-11 _ (makes (setup n L ids sources counts ds) c e .shaped)); blank = refl }
+  pub can-initialize : (c : Counters) (edges : List ℕ) → build (whole ids) c .answer ≡ Accepted → length edges ≡ 3072 → CanInitialize n L sources counts ds ws edges (zeroes 256)
+  can-initialize c edges e l = record { writable = writable c edges e l; passes = without-ids (passes-11 _ (makes (whole ids) c e .shaped)); blank = refl }

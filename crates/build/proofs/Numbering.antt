@@ -13,7 +13,7 @@ use Rattle.build.specs.Numbers.{numberOf, valuesOf}
 use Rattle.build.proofs.BuildAnswer.{the-type}
 
 abbrev pub refusals : List ℕ
-refusals = 1 ∷ 2 ∷ 3 ∷ 4 ∷ 5 ∷ 6 ∷ 7 ∷ 8 ∷ 9 ∷ 10 ∷ []
+refusals = 1 ∷ 2 ∷ 3 ∷ 4 ∷ 5 ∷ 6 ∷ 7 ∷ 8 ∷ 9 ∷ 10 ∷ 11 ∷ []
 
 record Numbering (a : BuildAnswer) : Type 0 where
   pub number-is : numberOf a ≡ number (answerOf a)
@@ -33,6 +33,7 @@ numbering (P.UnknownTopologySource p) = record { number-is = refl; values-are = 
 numbering (P.UnknownTopologyDestination p d) = record { number-is = refl; values-are = refl; refuses = λ _. (_, refl) }
 numbering (P.SelfLoop p) = record { number-is = refl; values-are = refl; refuses = λ _. (_, refl) }
 numbering (P.DuplicateNeighbor p d) = record { number-is = refl; values-are = refl; refuses = λ _. (_, refl) }
+numbering P.InvalidEdgeLookahead = record { number-is = refl; values-are = refl; refuses = λ _. (_, refl) }
 
 module _ (a : BuildAnswer) where
   module _ (b : A.Answer) (e : answerOf a ≡ b) where

@@ -18,6 +18,7 @@ numberOf (P.UnknownTopologySource p) = 7
 numberOf (P.UnknownTopologyDestination p d) = 8
 numberOf (P.SelfLoop p) = 9
 numberOf (P.DuplicateNeighbor p d) = 10
+numberOf P.InvalidEdgeLookahead = 40
 
 -- Column "Returned".
 abbrev pub valuesOf : BuildAnswer → List ℕ
@@ -32,3 +33,4 @@ valuesOf (P.UnknownTopologySource p) = lpIdOf p ∷ []
 valuesOf (P.UnknownTopologyDestination p d) = lpIdOf p ∷ lpIdOf d ∷ []
 valuesOf (P.SelfLoop p) = lpIdOf p ∷ []
 valuesOf (P.DuplicateNeighbor p d) = lpIdOf p ∷ lpIdOf d ∷ []
+valuesOf P.InvalidEdgeLookahead = []

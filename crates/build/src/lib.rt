@@ -1,5 +1,5 @@
-// Build on lent lists: its checks 1 to 10 in their order, and the header, the edges and the record that
-// an accepted build makes.
+// Build on lent lists: its checks 1 to 10 and 40 in their order, and the header, the edges and the
+// record that an accepted build makes.
 use build_ids::MissingRow;
 use build_topology::TopologyCheck;
 use state::Header;
@@ -26,6 +26,7 @@ pub enum BuildAnswer {
     UnknownTopologyDestination(LpId, LpId),
     SelfLoop(LpId),
     DuplicateNeighbor(LpId, LpId),
+    InvalidEdgeLookahead,
 }
 
 // 1 to 4.
@@ -50,7 +51,7 @@ fn check_processes(n: u64, lookahead: SimDuration, ids: &[u32]) -> BuildAnswer
     BuildAnswer::ProcessSetMismatch(found.missing, found.unexpected)
 }
 
-// 7 to 10.
+// 7 to 10 and 40.
 fn answer_of(fault: TopologyCheck) -> BuildAnswer
     ensures { λ r. ⌜ answerOf r ≡ answerFor (refusalOf fault) ⌝ }
 {
@@ -63,20 +64,22 @@ fn answer_of(fault: TopologyCheck) -> BuildAnswer
         ),
         TopologyCheck::SelfLoop(p) => BuildAnswer::SelfLoop(p),
         TopologyCheck::DuplicateNeighbor(p, d) => BuildAnswer::DuplicateNeighbor(p, d),
+        TopologyCheck::InvalidEdgeLookahead => BuildAnswer::InvalidEdgeLookahead,
     }
 }
 
-// 5 to 10.
+// 5 to 10 and 40.
 fn check_topology<'a>(
     n: u64,
     sources: &'a [u32],
     counts: &'a [u64],
     destinations: &'a [u32],
+    lookaheads: &'a [u64],
 ) -> BuildAnswer
     requires { ⌜ n ≤ 64 ⌝ }
-    ensures { λ r. ⌜ ChecksTopology n (now (sources .entry)) (now (counts .entry)) (now (destinations .entry)) r ⌝ }
+    ensures { λ r. ⌜ ChecksTopology n (now (sources .entry)) (now (counts .entry)) (now (destinations .entry)) (now (lookaheads .entry)) r ⌝ }
 {
-    if !build_topology::rows_well_formed(sources, counts, destinations) {
+    if !build_topology::rows_well_formed(sources, counts, destinations, lookaheads) {
         return BuildAnswer::MalformedTopology;
     }
     match build_ids::least_without_row(sources, n) {
@@ -85,12 +88,13 @@ fn check_topology<'a>(
             sources,
             counts,
             destinations,
+            lookaheads,
             n,
         )),
     }
 }
 
-// 1 to 10.
+// 1 to 10 and 40.
 pub fn check<'a>(
     n: u64,
     lookahead: SimDuration,
@@ -98,12 +102,13 @@ pub fn check<'a>(
     sources: &'a [u32],
     counts: &'a [u64],
     destinations: &'a [u32],
+    lookaheads: &'a [u64],
 ) -> BuildAnswer
-    ensures { λ r. ⌜ ChecksBuild n (durationOf lookahead) (now (ids .entry)) (now (sources .entry)) (now (counts .entry)) (now (destinations .entry)) r ⌝ }
+    ensures { λ r. ⌜ ChecksBuild n (durationOf lookahead) (now (ids .entry)) (now (sources .entry)) (now (counts .entry)) (now (destinations .entry)) (now (lookaheads .entry)) r ⌝ }
 {
     let processes = check_processes(n, lookahead, ids);
     if let BuildAnswer::Accepted = processes {
-        check_topology(n, sources, counts, destinations)
+        check_topology(n, sources, counts, destinations, lookaheads)
     } else {
         processes
     }
@@ -116,13 +121,14 @@ pub fn initialize<'a>(
     sources: &'a [u32],
     counts: &'a [u64],
     destinations: &'a [u32],
+    lookaheads: &'a [u64],
     edges: &mut [u64],
     processes: &mut [u64],
 ) -> Header
-    requires { ⌜ CanInitialize n (durationOf lookahead) (now sources) (now counts) (now destinations) (now edges) (now processes) ⌝ }
-    ensures { λ r. ⌜ Initializes n (durationOf lookahead) (now (sources .entry)) (now (counts .entry)) (now (destinations .entry)) (now (edges .entry)) (now (edges .exit)) (now (processes .exit)) r ⌝ }
+    requires { ⌜ CanInitialize n (durationOf lookahead) (now sources) (now counts) (now destinations) (now lookaheads) (now edges) (now processes) ⌝ }
+    ensures { λ r. ⌜ Initializes n (durationOf lookahead) (now (sources .entry)) (now (counts .entry)) (now (destinations .entry)) (now (lookaheads .entry)) (now (edges .entry)) (now (edges .exit)) (now (processes .exit)) r ⌝ }
 {
-    build_edges::write_edges(sources, counts, destinations, lookahead, edges);
+    build_edges::write_edges(sources, counts, destinations, lookaheads, edges);
     inbound::record_inbound(edges, destinations.len(), n as usize, processes);
     Header {
         n: n as usize,

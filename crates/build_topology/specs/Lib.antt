@@ -1,1 +1,2 @@
+pub mod Lookaheads
 pub mod Checks

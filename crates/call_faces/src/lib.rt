@@ -10,6 +10,7 @@ ghost use Prim.Native.Nat.{_<_};
 ghost use Rattle.types.specs.Value.{durationOf};
 ghost use Rattle.rules.specs.Build.{setup};
 ghost use Rattle.call_words.specs.Decode.{decode, size, callOf};
+ghost use Rattle.build_topology.specs.Lookaheads.{lookaheadsFor};
 ghost use Rattle.runtime.specs.Builds.{Builds};
 ghost use Rattle.runtime.specs.Executes.{Executes};
 ghost use Rattle.reads.specs.Reads.{Reads};
@@ -34,14 +35,33 @@ pub fn build<'a>(
     sources: &'a [u32],
     counts: &'a [u64],
     destinations: &'a [u32],
+    lookaheads: &'a [u64],
     counters: Counters,
 ) -> BuildResult
-    ensures { λ r. ⌜ Builds (setup n (durationOf lookahead) (now (ids .entry)) (now (sources .entry)) (now (counts .entry)) (now (destinations .entry))) counters r ⌝ }
+    ensures { λ r. ⌜ Builds (setup n (durationOf lookahead) (now (ids .entry)) (now (sources .entry)) (now (counts .entry)) (now (destinations .entry)) (lookaheadsFor (now (destinations .entry)) (now (lookaheads .entry)))) counters r ⌝ }
 {
     if face == HOST {
-        return host_by_value::build(n, lookahead, ids, sources, counts, destinations, counters);
+        return host_by_value::build(
+            n,
+            lookahead,
+            ids,
+            sources,
+            counts,
+            destinations,
+            lookaheads,
+            counters,
+        );
     }
-    runtime::build(n, lookahead, ids, sources, counts, destinations, counters)
+    runtime::build(
+        n,
+        lookahead,
+        ids,
+        sources,
+        counts,
+        destinations,
+        lookaheads,
+        counters,
+    )
 }
 
 // Carries out the call at that place, which can be decoded.

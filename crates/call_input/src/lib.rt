@@ -18,8 +18,11 @@ ghost use lib.ListN.{length};
 // The most words that a call has: tag, mask and number, and 4,096 emissions.
 pub const CALL_WORDS: usize = 32771;
 
-// How many things came where the input could not be decoded: more than a list may have.
-pub const BROKEN: usize = 4097;
+// The most words that the lookaheads of a build have: two for each of 4,096 destinations.
+pub const LOOKAHEAD_WORDS: usize = 8192;
+
+// How many things or words came where the input could not be decoded: more than a list may have.
+pub const BROKEN: usize = 8193;
 
 // The last tag.
 pub const PLAN: u64 = 8;
@@ -113,16 +116,19 @@ pub fn read_call(words: &mut [u64]) -> usize
     read_behind(words, tag)
 }
 
-// A number of words, and these words to the front of w; whether they came and w holds them.
-fn read_array(w: &mut [u64]) -> bool {
+// A number of words, and these words to the front of w, which holds them; how many came.
+pub fn read_array(w: &mut [u64]) -> usize {
     let Next::Word(count) = text_input::read_word(STDIN_FILENO) else {
-        return false;
+        return BROKEN;
     };
     if (w.len() as u64) < count {
-        return false;
+        return BROKEN;
     }
     let end = count as usize;
-    text_input::read_words(STDIN_FILENO, &mut w[..end]) == end
+    if text_input::read_words(STDIN_FILENO, &mut w[..end]) < end {
+        return BROKEN;
+    }
+    end
 }
 
 fn header_of(lookahead: SimDuration, w: [u64; STATE_WORDS]) -> Header {
@@ -158,15 +164,15 @@ fn counters_of(w: [u64; STATE_WORDS]) -> Counters {
 // A state given whole, behind its lookahead. Words of its arrays that are not given are 0.
 pub fn read_state(lookahead: SimDuration) -> GivenState {
     let mut w = [0u64; STATE_WORDS];
-    let mut edges = [0u64; 2048];
+    let mut edges = [0u64; 3072];
     let mut pending = [0u64; 4096];
     let mut processes = [0u64; 256];
     let mut batch = [0u64; 512];
     let whole = text_input::read_words(STDIN_FILENO, &mut w) == STATE_WORDS
-        && read_array(&mut edges)
-        && read_array(&mut pending)
-        && read_array(&mut processes)
-        && read_array(&mut batch);
+        && read_array(&mut edges) < BROKEN
+        && read_array(&mut pending) < BROKEN
+        && read_array(&mut processes) < BROKEN
+        && read_array(&mut batch) < BROKEN;
     GivenState {
         whole: whole,
         state: Runtime {

@@ -30,7 +30,7 @@ ExecutesAddOrBegin k h c E P r P′ = (Z B : List ℕ) → ValidArrays h E P Z B
 
 -- What is asked for that: one of the two can be decoded at the place, and what add initial asks.
 pub record CanAddOrBegin (h : Header) (edges pending w : List ℕ) (at : ℕ) : Type 0 where
-  pub edges-there : 4 * h .edges ≤ length edges
+  pub edges-there : 6 * h .edges ≤ length edges
   pub queueable : CanEnqueue h pending
   pub some : 0 < size (decode w at)
   pub tag : getD w at 0 < 2

@@ -9,6 +9,7 @@ use Rattle.rules.specs.Build.{Setup, setup, build}
 use Rattle.rules.specs.History.{History, emptyHistory, runCalls}
 use Rattle.rules.specs.Demand.{Demanded}
 use Rattle.state.specs.View.{viewOf, countersOf, zeroCounters}
+use Rattle.build_topology.specs.Lookaheads.{lookaheadsFor}
 use Rattle.build.specs.declared.BuildAnswer.{BuildAnswer}
 use Rattle.build.specs.Checks.{answerOf}
 use Rattle.build.specs.Initialized.{emptyRuntime}
@@ -25,9 +26,9 @@ pub record Leaves (a : Setup) (w : List ℕ) (r : RehearsalResult) : Type 0 wher
   pub counters : historyOf a w .counters ≡ countersOf (r .counters)
   pub calls : r .calls ≡ length (decodeAll w)
 
-pub record RehearsesAccepted (n L : ℕ) (sources counts destinations w : List ℕ) (r : RehearsalResult) : Type 0 where
+pub record RehearsesAccepted (n L : ℕ) (sources counts destinations lookaheads w : List ℕ) (r : RehearsalResult) : Type 0 where
   pub answered : answerOf (r .answer) ≡ Accepted
-  pub leaves : (ids : List ℕ) → Leaves (setup n L ids sources counts destinations) w r
+  pub leaves : (ids : List ℕ) → Leaves (setup n L ids sources counts destinations (lookaheadsFor destinations lookaheads)) w r
 
 -- What a refused build leaves: nothing made, and nothing counted or carried out.
 abbrev pub refusedResult : BuildAnswer → RehearsalResult

@@ -18,6 +18,7 @@ ghost use Rattle.types.specs.Value.{durationOf};
 ghost use Rattle.rules.specs.Build.{setup};
 ghost use Rattle.call_list.specs.Runs.{RunsCalls};
 ghost use Rattle.words.specs.Words.{zeroes};
+ghost use Rattle.build_topology.specs.Lookaheads.{lookaheadsFor};
 ghost use Rattle.build.specs.Initialized.{CanInitialize};
 ghost use Rattle.call_list.specs.Rehearses.{RehearsesAccepted, Rehearses};
 
@@ -149,12 +150,13 @@ fn rehearse_accepted<'a>(
     sources: &'a [u32],
     counts: &'a [u64],
     destinations: &'a [u32],
+    lookaheads: &'a [u64],
     words: &'a [u64],
 ) -> RehearsalResult
-    requires { ⌜ CanInitialize n (durationOf lookahead) (now sources) (now counts) (now destinations) (zeroes 2048) (zeroes 256) ⌝ }
-    ensures { λ r. ⌜ RehearsesAccepted n (durationOf lookahead) (now (sources .entry)) (now (counts .entry)) (now (destinations .entry)) (now (words .entry)) r ⌝ }
+    requires { ⌜ CanInitialize n (durationOf lookahead) (now sources) (now counts) (now destinations) (now lookaheads) (zeroes 3072) (zeroes 256) ⌝ }
+    ensures { λ r. ⌜ RehearsesAccepted n (durationOf lookahead) (now (sources .entry)) (now (counts .entry)) (now (destinations .entry)) (now (lookaheads .entry)) (now (words .entry)) r ⌝ }
 {
-    let mut edges = [0u64; 2048];
+    let mut edges = [0u64; 3072];
     let mut pending = [0u64; 4096];
     let mut processes = [0u64; 256];
     let mut batch = [0u64; 512];
@@ -164,6 +166,7 @@ fn rehearse_accepted<'a>(
         sources,
         counts,
         destinations,
+        lookaheads,
         &mut edges,
         &mut processes,
     );
@@ -199,18 +202,27 @@ pub fn rehearse<'a>(
     sources: &'a [u32],
     counts: &'a [u64],
     destinations: &'a [u32],
+    lookaheads: &'a [u64],
     words: &'a [u64],
 ) -> RehearsalResult
-    ensures { λ r. ⌜ Rehearses (setup n (durationOf lookahead) (now (ids .entry)) (now (sources .entry)) (now (counts .entry)) (now (destinations .entry))) (now (words .entry)) r ⌝ }
+    ensures { λ r. ⌜ Rehearses (setup n (durationOf lookahead) (now (ids .entry)) (now (sources .entry)) (now (counts .entry)) (now (destinations .entry)) (lookaheadsFor (now (destinations .entry)) (now (lookaheads .entry)))) (now (words .entry)) r ⌝ }
 {
-    let answer = build::check(n, lookahead, ids, sources, counts, destinations);
+    let answer = build::check(n, lookahead, ids, sources, counts, destinations, lookaheads);
     if let BuildAnswer::Accepted = answer {
-        return rehearse_accepted(n, lookahead, sources, counts, destinations, words);
+        return rehearse_accepted(
+            n,
+            lookahead,
+            sources,
+            counts,
+            destinations,
+            lookaheads,
+            words,
+        );
     }
     RehearsalResult {
         answer: answer,
         state: Runtime {
-            edges: [0; 2048],
+            edges: [0; 3072],
             pending: [0; 4096],
             processes: [0; 256],
             batch: [0; 512],

@@ -161,9 +161,9 @@ program-theorem = record {
     host-pending = λ κs a g. refl;
     host-earliest = λ κs a g. refl;
   };
-  demand-3 = λ κs n L ids sources counts ds c r b e xs i.
+  demand-3 = λ κs n L ids sources counts ds ws c r b e xs i.
       let p = demand-3-of-the-program _ c r b e (map linkOf xs) (carried (r .state) (r .counters) xs i) in
       (p, read-after _ r (map linkOf xs) p);
-  host-demand-3 = λ 𝓤 H A mem run κs n L ids sources counts ds c d r e xs t.
+  host-demand-3 = λ 𝓤 H A mem run κs n L ids sources counts ds ws c d r e xs t.
       (host-demanded 𝓤 H A mem run _ (now c) _ e xs t, host-read-after 𝓤 H A mem run _ (now c) _ e xs t);
 }

@@ -27,6 +27,7 @@ use Rattle.state.specs.declared.Runtime.{Runtime}
 use Rattle.state.specs.declared.Counters.{Counters}
 use Rattle.state.specs.declared.Message.{Message}
 use Rattle.state.specs.View.{viewOf, messageOf}
+use Rattle.build_topology.specs.Lookaheads.{lookaheadsFor}
 use Rattle.build.specs.Checks.{answerOf}
 use Rattle.runtime.specs.declared.BuildResult.{BuildResult}
 use Rattle.runtime.specs.declared.CallResult.{CallResult}
@@ -197,14 +198,14 @@ pub record ProgramTheorem (M : Type 1) : Type 2 where
   pub host-pending-meets : host-pending″.statement M
   pub host-earliest-meets : host-earliest″.statement M
   pub nothing-asked : (𝓤 : URA M) (H : Heap 𝓤) (A : Atoms 𝓤) (mem : Memory → SProp 𝓤) (run : Routine → Fun 𝓤) → NothingAsked 𝓤 H A mem run
-  pub demand-3 : (κs : Lfts 1) (n : ℕ) (L : SimDuration) (ids sources counts destinations : RefT (List ℕ)) (c : Counters) (r : BuildResult)
-      → build′.Learnt κs (n, (L, (ids, (sources, (counts, (destinations, (c, tt))))))) r (n, (L, (ids, (sources, (counts, (destinations, (c, tt)))))))
+  pub demand-3 : (κs : Lfts 1) (n : ℕ) (L : SimDuration) (ids sources counts destinations lookaheads : RefT (List ℕ)) (c : Counters) (r : BuildResult)
+      → build′.Learnt κs (n, (L, (ids, (sources, (counts, (destinations, (lookaheads, (c, tt)))))))) r (n, (L, (ids, (sources, (counts, (destinations, (lookaheads, (c, tt))))))))
       → answerOf (r .answer) ≡ Accepted
       → (ds : List CallMade) → ContractsHold (r .state) (r .counters) ds
-      → Demand3OfProgram (setup n (durationOf L) (now ids) (now sources) (now counts) (now destinations)) r (map linkOf ds) × ReadAfter r (map linkOf ds)
-  pub host-demand-3 : (𝓤 : URA M) (H : Heap 𝓤) (A : Atoms 𝓤) (mem : Memory → SProp 𝓤) (run : Routine → Fun 𝓤) (κs : Lfts 2) (n : ℕ) (L : SimDuration) (ids sources counts destinations : RefT (List ℕ)) (c d : RefT Counters) (r : HostBuildResult)
+      → Demand3OfProgram (setup n (durationOf L) (now ids) (now sources) (now counts) (now destinations) (lookaheadsFor (now destinations) (now lookaheads))) r (map linkOf ds) × ReadAfter r (map linkOf ds)
+  pub host-demand-3 : (𝓤 : URA M) (H : Heap 𝓤) (A : Atoms 𝓤) (mem : Memory → SProp 𝓤) (run : Routine → Fun 𝓤) (κs : Lfts 2) (n : ℕ) (L : SimDuration) (ids sources counts destinations lookaheads : RefT (List ℕ)) (c d : RefT Counters) (r : HostBuildResult)
       → answerOf (r .answer) ≡ Accepted
       → (ds : List HostCallMade) → LentInTurn (now d) ds
       → let b = buildResultOf r (now d) in
-      let P = conj 𝓤 (host-build.clauses 𝓤 H A mem run κs (n, (L, (ids, (sources, (counts, (destinations, (c, tt))))))) .ensures tt r (n, (L, (ids, (sources, (counts, (destinations, (d, tt)))))))) (AllEnsured 𝓤 H A mem run (r .state) ds) in
-      ent 𝓤 P (fact 𝓤 (Demand3OfProgram (setup n (durationOf L) (now ids) (now sources) (now counts) (now destinations)) b (map Host.linkOf ds))) × HostReadAfter b (map Host.linkOf ds) 𝓤 H A mem run P
+      let P = conj 𝓤 (host-build.clauses 𝓤 H A mem run κs (n, (L, (ids, (sources, (counts, (destinations, (lookaheads, (c, tt)))))))) .ensures tt r (n, (L, (ids, (sources, (counts, (destinations, (lookaheads, (d, tt))))))))) (AllEnsured 𝓤 H A mem run (r .state) ds) in
+      ent 𝓤 P (fact 𝓤 (Demand3OfProgram (setup n (durationOf L) (now ids) (now sources) (now counts) (now destinations) (lookaheadsFor (now destinations) (now lookaheads))) b (map Host.linkOf ds))) × HostReadAfter b (map Host.linkOf ds) 𝓤 H A mem run P

@@ -3,6 +3,7 @@
 use build::BuildAnswer;
 use call_input::BROKEN;
 use call_input::CALL_WORDS;
+use call_input::LOOKAHEAD_WORDS;
 use call_input::PLAN;
 use libc::STDIN_FILENO;
 use runtime::BuildResult;
@@ -188,7 +189,40 @@ fn read_rows(sources: &mut [u32], counts: &mut [u64]) -> usize {
     count
 }
 
-// Reads the destinations, builds, and carries the list out.
+// Reads the lookaheads of the edges, builds, and carries the list out.
+fn execute_lookaheads<'a>(
+    face: u64,
+    n: u64,
+    lookahead: SimDuration,
+    ids: &'a [u32],
+    sources: &'a [u32],
+    counts: &'a [u64],
+    destinations: &'a [u32],
+) -> bool {
+    let mut lookaheads = [0u64; LOOKAHEAD_WORDS];
+    let end = call_input::read_array(&mut lookaheads);
+    if LOOKAHEAD_WORDS < end {
+        return false;
+    }
+    let lent = &lookaheads[..end];
+    let none = no_counters();
+    execute_on(
+        face,
+        call_faces::build(
+            face,
+            n,
+            lookahead,
+            ids,
+            sources,
+            counts,
+            destinations,
+            lent,
+            none,
+        ),
+    )
+}
+
+// Reads the destinations, and carries the list out.
 fn execute_edges<'a>(
     face: u64,
     n: u64,
@@ -202,11 +236,14 @@ fn execute_edges<'a>(
     if PLACES < edges {
         return false;
     }
-    let lent = &destinations[..edges];
-    let none = no_counters();
-    execute_on(
+    execute_lookaheads(
         face,
-        call_faces::build(face, n, lookahead, ids, sources, counts, lent, none),
+        n,
+        lookahead,
+        ids,
+        sources,
+        counts,
+        &destinations[..edges],
     )
 }
 

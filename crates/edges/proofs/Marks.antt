@@ -12,7 +12,7 @@ use lib.Pow.{pow-lt}
 use lib.Seq.{getD-set-same, getD-set-other}
 use borrow.Author.Tests.{eq-eqb, eqb-true, eqb-false, leb-false}
 use Rattle.words.specs.Words.{tab, zeroes}
-use Rattle.words.proofs.Tab.{tab-step, tab-none, tab-whole}
+use Rattle.words.proofs.Tab.{tab-step, tab-none}
 use Rattle.records.specs.Records.{edgeAt, edgesOf}
 use Rattle.records.proofs.Placing.{all-at}
 use Rattle.rules.specs.Base.{any}
@@ -26,13 +26,13 @@ use Rattle.edges.proofs.Tested.{route-self, route-along}
 
 -- Both ends of an edge whose ids are known.
 module _ (w : List ℕ) (i : ℕ) (h : unknownIdEdge 64 (edgeAt w i) ≡ false) where
-  pub source-below : getD w (4 * i) 0 < 64
+  pub source-below : getD w (6 * i) 0 < 64
   unfolding edgeAt
-  source-below = leb-false 64 (getD w (4 * i) 0) (or-left (leb 64 (getD w (4 * i) 0)) (leb 64 (getD w (4 * i + 1) 0)) h)
+  source-below = leb-false 64 (getD w (6 * i) 0) (or-left (leb 64 (getD w (6 * i) 0)) (leb 64 (getD w (6 * i + 1) 0)) h)
 
-  pub destination-below : getD w (4 * i + 1) 0 < 64
+  pub destination-below : getD w (6 * i + 1) 0 < 64
   unfolding edgeAt
-  destination-below = leb-false 64 (getD w (4 * i + 1) 0) (or-right (leb 64 (getD w (4 * i) 0)) (leb 64 (getD w (4 * i + 1) 0)) h)
+  destination-below = leb-false 64 (getD w (6 * i + 1) 0) (or-right (leb 64 (getD w (6 * i) 0)) (leb 64 (getD w (6 * i + 1) 0)) h)
 
 -- No edges.
 noughts : (k x : ℕ) → getD (zeroes k) x 0 ≡ 0
@@ -54,10 +54,10 @@ with-bit w f t s d h =
 -- Edge i more.
 module _ (edges w : List ℕ) (i : ℕ) where
   abbrev from : ℕ
-  from = getD edges (4 * i) 0
+  from = getD edges (6 * i) 0
 
   abbrev to : ℕ
-  to = getD edges (4 * i + 1) 0
+  to = getD edges (6 * i + 1) 0
 
   pub marking : length w ≡ 64 → unknownIdEdge 64 (edgeAt edges i) ≡ false → Marked (edgeAt edges i) w (set w from (bitOr (getD w from 0) (1 * 2 ^ to % 2 ^ 64)))
   unfolding Marked Routes edgeAt any
@@ -95,16 +95,10 @@ module _ (edges : List ℕ) (n : ℕ) where
   pub routing-start : (w : List ℕ) → Routes [] w → Routing edges n n w
   routing-start w r = record { within = omega arith; routes = rw (tab-none (edgeAt edges) n n (omega arith)) r }
 
-  pub routing-empty : (t : List ℕ) → t ≡ zeroes 64 → Routing edges n n t
-  routing-empty t e = routing-start t (rw e no-routes)
+  pub routing-more : (i : ℕ) (w : List ℕ) → Routing edges n i w → 0 < i → (u : List ℕ) → Marked (edgeAt edges (i - 1)) w u → Routing edges n (i - 1) u
+  unfolding Marked
+  routing-more i w p h u m = record { within = omega (arith, p .within); routes = rw (tab-step (edgeAt edges) i n h (p .within)) (m _ (p .routes)) }
 
-  pub not-unknown : (i : ℕ) → 0 < i → i ≤ n → any (unknownIdEdge 64) (edgesOf n edges) ≡ false → unknownIdEdge 64 (edgeAt edges (i - 1)) ≡ false
-  not-unknown i h l e = all-at (λ (x : Edge). unknownIdEdge 64 x ≡ false) (edgeAt edges) 0 n (i - 1) (any-none (unknownIdEdge 64) (edgesOf n edges) e) (omega arith) (omega arith)
-
-  module _ (i : ℕ) (w : List ℕ) (p : Routing edges n i w) where
-    pub routing-more : 0 < i → (u : List ℕ) → Marked (edgeAt edges (i - 1)) w u → Routing edges n (i - 1) u
-    unfolding Marked
-    routing-more h u m = record { within = omega (arith, p .within); routes = rw (tab-step (edgeAt edges) i n h (p .within)) (m _ (p .routes)) }
-
-    pub routing-end : i ≤ 0 → Routes (edgesOf n edges) w
-    routing-end h = let z : i ≡ 0 = omega arith in rw (tab-whole (edgeAt edges) i n z) at (p .routes)
+-- Where no edge has an unknown end, the one that a pass comes to has none.
+pub not-unknown : (edges : List ℕ) (n i : ℕ) → 0 < i → i ≤ n → any (unknownIdEdge 64) (edgesOf n edges) ≡ false → unknownIdEdge 64 (edgeAt edges (i - 1)) ≡ false
+not-unknown edges n i h l e = all-at (λ (x : Edge). unknownIdEdge 64 x ≡ false) (edgeAt edges) 0 n (i - 1) (any-none (unknownIdEdge 64) (edgesOf n edges) e) (omega arith) (omega arith)

@@ -14,7 +14,7 @@ use Rattle.records.specs.Records.{edgeAt, edgesOf}
 use Rattle.rules.specs.Base.{any}
 use Rattle.rules.specs.State.{Edge}
 use Rattle.rules.specs.Pending.{joins, route}
-use Rattle.rules.specs.Foreign.{unknownIdEdge, duplicateOrSelfEdges}
+use Rattle.rules.specs.Foreign.{unknownIdEdge, duplicateOrSelfEdges, withoutLookahead}
 use Rattle.rules.proofs.Tests.{or-left, or-right, or-both, or-cases}
 use Rattle.inbound.specs.Inbound.{RecordsInbound}
 use Rattle.inbound.proofs.Recording.{Recording, recording-end}
@@ -37,24 +37,28 @@ module _ (n : ℕ) (h : n ≤ 64) where
   pub answer-low : (e : Edge) (b : Bool) → b ≡ unknownIdEdge n e → b ≡ false → unknownIdEdge 64 e ≡ false
   answer-low e b q f = both-low e (sym q ∙ f)
 
--- Edge e is met with the edges of w seen: b is whether an end is unknown.
+-- Edge e is met with the edges of w seen: b is whether an end is unknown, c whether it has no lookahead.
 module _ (n : ℕ) (e : Edge) (w : List ℕ) (b : Bool) (q : b ≡ unknownIdEdge n e) where
   pub met-unknown : b ≡ true → InvalidEdge n e w w true
   met-unknown t = record { answer = λ es r. rw (← q, t); marked = λ x. absurd (true≢false x) }
 
-  pub met-known : b ≡ false → (u : List ℕ) (r : Bool) → SeenOrMarked e w u r → InvalidEdge n e w u r
-  unfolding HasRoute
-  met-known t u r m = record { answer = λ es s. rw (← q, t) (m .bad es s); marked = m .marked }
+  module _ (t : b ≡ false) (c : Bool) (l : c ≡ withoutLookahead e) where
+    pub met-without : c ≡ true → InvalidEdge n e w w true
+    met-without o = record { answer = λ es r. rw (← q, t, ← l, o); marked = λ x. absurd (true≢false x) }
+
+    pub met-known : c ≡ false → (u : List ℕ) (r : Bool) → SeenOrMarked e w u r → InvalidEdge n e w u r
+    unfolding HasRoute
+    met-known o u r m = record { answer = λ es s. rw (← q, t, ← l, o) (m .bad es s); marked = m .marked }
 
 -- What 11 says of edges.
 abbrev pub invalid : ℕ → List Edge → Bool
-invalid n es = any (unknownIdEdge n) es || duplicateOrSelfEdges es
+invalid n es = any (unknownIdEdge n) es || any withoutLookahead es || duplicateOrSelfEdges es
 
 -- An invalid edge behind others.
-unknown-behind : (n : ℕ) (xs ys : List Edge) → any (unknownIdEdge n) ys ≡ true → any (unknownIdEdge n) (xs ++ ys) ≡ true
+any-behind : (f : Edge → Bool) (xs ys : List Edge) → any f ys ≡ true → any f (xs ++ ys) ≡ true
 unfolding any
-unknown-behind n [] ys h = h
-unknown-behind n (x ∷ xs) ys h = rw (unknown-behind n xs ys h) (or-true (unknownIdEdge n x))
+any-behind f [] ys h = h
+any-behind f (x ∷ xs) ys h = rw (any-behind f xs ys h) (or-true (f x))
 
 bad-behind : (xs ys : List Edge) → duplicateOrSelfEdges ys ≡ true → duplicateOrSelfEdges (xs ++ ys) ≡ true
 unfolding duplicateOrSelfEdges
@@ -63,13 +67,21 @@ bad-behind (x ∷ xs) ys h = rw (bad-behind xs ys h) (or-true (eqb (x .source) (
 
 invalid-behind : (n : ℕ) (xs ys : List Edge) → invalid n ys ≡ true → invalid n (xs ++ ys) ≡ true
 invalid-behind n xs ys h =
-    or-cases (any (unknownIdEdge n) ys) (duplicateOrSelfEdges ys) h (λ a. rw (unknown-behind n xs ys a)) (λ b. rw (bad-behind xs ys b) (or-true (any (unknownIdEdge n) (xs ++ ys))))
+    let unknown = any (unknownIdEdge n) (xs ++ ys) in
+    or-cases (any (unknownIdEdge n) ys || any withoutLookahead ys) (duplicateOrSelfEdges ys) h
+    (λ a. or-cases (any (unknownIdEdge n) ys) (any withoutLookahead ys) a
+    (λ b. rw (any-behind (unknownIdEdge n) xs ys b))
+    (λ b. rw (any-behind withoutLookahead xs ys b, or-true unknown)))
+    (λ a. rw (bad-behind xs ys a) (or-true (unknown || any withoutLookahead (xs ++ ys))))
 
 -- One more in front of valid edges.
-invalid-more : (n : ℕ) (e : Edge) (es : List Edge) → invalid n es ≡ false → invalid n (e ∷ es) ≡ unknownIdEdge n e || route es (e .source) (e .destination)
+invalid-more : (n : ℕ) (e : Edge) (es : List Edge) → invalid n es ≡ false → invalid n (e ∷ es) ≡ unknownIdEdge n e || withoutLookahead e || route es (e .source) (e .destination)
 unfolding any duplicateOrSelfEdges route
 invalid-more n e es h =
-    rw (or-left (any (unknownIdEdge n) es) (duplicateOrSelfEdges es) h, or-right (any (unknownIdEdge n) es) (duplicateOrSelfEdges es) h, or-false (unknownIdEdge n e), or-false (eqb (e .source) (e .destination) || any (joins (e .source) (e .destination)) es))
+    let a = any (unknownIdEdge n) es in
+    let b = any withoutLookahead es in
+    let ab : a || b ≡ false = or-left (a || b) (duplicateOrSelfEdges es) h in
+    rw (or-left a b ab, or-right a b ab, or-right (a || b) (duplicateOrSelfEdges es) h, or-false (unknownIdEdge n e), or-false (withoutLookahead e), or-false (eqb (e .source) (e .destination) || any (joins (e .source) (e .destination)) es))
 
 -- The edges from i on are passed: none of them is invalid, and they are in the table.
 pub record Passing (edges : List ℕ) (m n i : ℕ) (w : List ℕ) : Type 0 where
@@ -90,10 +102,10 @@ module _ (edges : List ℕ) (m n : ℕ) where
     passing-more e = record { routing = routing-more edges m i w (p .routing) h u (o .marked e); valid = told ∙ e }
 
     -- Its destination has a place in the record.
-    pub destination-known : r ≡ false → n ≤ 64 → getD edges (4 * (i - 1) + 1) 0 < 64
+    pub destination-known : r ≡ false → n ≤ 64 → getD edges (6 * (i - 1) + 1) 0 < 64
     destination-known e l =
         destination-below edges (i - 1)
-        (both-low n l (edgeAt edges (i - 1)) (or-left (unknownIdEdge n (edgeAt edges (i - 1))) _ (sym (o .answer _ (p .routing .routes)) ∙ e)))
+        (both-low n l (edgeAt edges (i - 1)) (or-left (unknownIdEdge n (edgeAt edges (i - 1))) _ (or-left (unknownIdEdge n (edgeAt edges (i - 1)) || withoutLookahead (edgeAt edges (i - 1))) _ (sym (o .answer _ (p .routing .routes)) ∙ e))))
 
     pub passing-stop : r ≡ true → (v x : List ℕ) → InvalidEdges n (edgesOf m edges) v x true
     passing-stop e v x =

@@ -1,13 +1,17 @@
 -- A chain of tests, each answered in turn.
 use mathlib.Core.Path.{_≡_, sym, ap, _∙_}
-use mathlib.Core.Bool.{Bool, true, false, not}
+use mathlib.Core.Bool.{Bool, true, false, not, or-true}
 use mathlib.Core.List.{List, [], _∷_}
 use Rattle.rules.specs.Base.{any, anyOf}
 
--- The first test holds; or one behind it decides; or it is the last.
+-- The first test holds; or one behind it does; or it does not, and those behind it decide; or it is the last.
 pub stops : (x : Bool) (ts : List Bool) → x ≡ true → true ≡ anyOf (x ∷ ts)
 unfolding anyOf any
 stops x ts e = rw e
+
+pub later : (x : Bool) (ts : List Bool) → true ≡ anyOf ts → true ≡ anyOf (x ∷ ts)
+unfolding anyOf any
+later x ts e = rw (← e) (sym (or-true x))
 
 pub goes-on : (x b : Bool) (ts : List Bool) → x ≡ false → b ≡ anyOf ts → b ≡ anyOf (x ∷ ts)
 unfolding anyOf any

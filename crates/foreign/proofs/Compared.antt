@@ -12,13 +12,13 @@ use Rattle.records.proofs.Passes.{Seeking, answer-found, seeking-end}
 use Rattle.rules.specs.Base.{upFrom, upTo, any, anyOf}
 use Rattle.rules.specs.State.{Edge}
 use Rattle.rules.specs.Frontiers.{leastInbound, recorded}
-use Rattle.rules.specs.Foreign.{unknownIdEdge, duplicateOrSelfEdges}
-use Rattle.rules.proofs.Tests.{by-bool, or-left, or-right, or-else}
+use Rattle.rules.specs.Foreign.{unknownIdEdge, duplicateOrSelfEdges, withoutLookahead}
+use Rattle.rules.proofs.Tests.{or-left, or-right, or-cases}
 use Rattle.inbound.specs.Inbound.{RecordsInbound}
 use Rattle.inbound.proofs.Recording.{recorded-in}
 use Rattle.edges.specs.Invalid.{InvalidEdges}
 use Rattle.foreign.specs.Tests.{wrongIn, edgeTests, differsAt}
-use Rattle.foreign.proofs.Chain.{stops, goes-on, ends}
+use Rattle.foreign.proofs.Chain.{stops, later, goes-on, ends}
 
 -- One process.
 pub ticks-differ : (w u : List ℕ) (p : ℕ) (s t : SimTime) (b : Bool) → ticksOf s ≡ inboundAt w p → ticksOf t ≡ inboundAt u p → b ≡ eqb (ticksOf s) (ticksOf t) → not b ≡ differsAt w u p
@@ -58,15 +58,26 @@ module _ (n : ℕ) (es : List Edge) (v u w : List ℕ) where
   compared r = any-same (differsAt w u) (λ p. not (eqb (recorded (inboundsOf n w) p) (leastInbound es p))) 0 n
       (λ p a b. let h : p < n = omega arith in rw (recorded-in n p w h, r .inbound p h))
 
+  abbrev unknown : Bool
+  unknown = any (unknownIdEdge n) es
+
+  abbrev without : Bool
+  without = any withoutLookahead es
+
+  abbrev bad : Bool
+  bad = duplicateOrSelfEdges es
+
   module _ (b : Bool) (i : InvalidEdges n es v u b) where
     pub edge-invalid : b ≡ true → true ≡ anyOf (edgeTests n es (inboundsOf n w))
     edge-invalid t =
-        by-bool (any (unknownIdEdge n) es)
-        (λ x. stops (any (unknownIdEdge n) es) _ x)
-        (λ x. goes-on (any (unknownIdEdge n) es) true _ x (stops (duplicateOrSelfEdges es) _ (or-else (any (unknownIdEdge n) es) (duplicateOrSelfEdges es) x (sym (i .answer) ∙ t))))
+        or-cases (unknown || without) bad (sym (i .answer) ∙ t)
+        (λ x. or-cases unknown without x (λ y. stops unknown _ y) (λ y. later unknown _ (stops without _ y)))
+        (λ x. later unknown _ (later without _ (stops bad _ x)))
 
     pub edges-valid : b ≡ false → (r : Bool) → r ≡ any (differsAt w u) (upTo n) → r ≡ anyOf (edgeTests n es (inboundsOf n w))
     edges-valid f r q =
-        let none : any (unknownIdEdge n) es || duplicateOrSelfEdges es ≡ false = sym (i .answer) ∙ f in
-        goes-on (any (unknownIdEdge n) es) r _ (or-left (any (unknownIdEdge n) es) (duplicateOrSelfEdges es) none)
-        (goes-on (duplicateOrSelfEdges es) r _ (or-right (any (unknownIdEdge n) es) (duplicateOrSelfEdges es) none) (ends _ r (q ∙ compared (i .records f))))
+        let none : unknown || without || bad ≡ false = sym (i .answer) ∙ f in
+        let ends-known : unknown || without ≡ false = or-left (unknown || without) bad none in
+        goes-on unknown r _ (or-left unknown without ends-known)
+        (goes-on without r _ (or-right unknown without ends-known)
+        (goes-on bad r _ (or-right (unknown || without) bad none) (ends _ r (q ∙ compared (i .records f)))))

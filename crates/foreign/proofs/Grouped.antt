@@ -22,10 +22,10 @@ or-swap : (a b c : Bool) → a || (b || c) ≡ b || (a || c)
 or-swap a b c = sym (or-assoc a b c) ∙ rw (or-comm a b) (or-assoc b a c)
 
 -- The program's order, and that of the rules.
-regrouped : (no-process many-processes no-lookahead many-edges many-pending many-batch top-horizon no-horizon no-run strange-edge bad-edge wrong-record strange-pending long-pending order-pending late-pending strange-batch long-batch order-batch : Bool)
+regrouped : (no-process many-processes no-lookahead many-edges many-pending many-batch top-horizon no-horizon no-run strange-edge no-edge-lookahead bad-edge wrong-record strange-pending long-pending order-pending late-pending strange-batch long-batch order-batch : Bool)
     → anyOf (
     anyOf (anyOf (no-process ∷ many-processes ∷ no-lookahead ∷ []) ∷ anyOf (many-edges ∷ many-pending ∷ many-batch ∷ []) ∷ anyOf (top-horizon ∷ no-horizon ∷ no-run ∷ []) ∷ [])
-    ∷ anyOf (strange-edge ∷ bad-edge ∷ wrong-record ∷ [])
+    ∷ anyOf (strange-edge ∷ no-edge-lookahead ∷ bad-edge ∷ wrong-record ∷ [])
     ∷ anyOf ((strange-pending || long-pending) ∷ order-pending ∷ late-pending ∷ [])
     ∷ anyOf ((strange-batch || long-batch) ∷ order-batch ∷ [])
     ∷ [])
@@ -42,11 +42,12 @@ regrouped : (no-process many-processes no-lookahead many-edges many-pending many
     ∷ no-run
     ∷ order-batch
     ∷ wrong-record
+    ∷ no-edge-lookahead
     ∷ false
     ∷ false
     ∷ [])
 unfolding anyOf any
-regrouped no-process many-processes no-lookahead many-edges many-pending many-batch top-horizon no-horizon no-run strange-edge bad-edge wrong-record strange-pending long-pending order-pending late-pending strange-batch long-batch order-batch = simp (or-assoc, or-comm, or-swap, or-false)
+regrouped no-process many-processes no-lookahead many-edges many-pending many-batch top-horizon no-horizon no-run strange-edge no-edge-lookahead bad-edge wrong-record strange-pending long-pending order-pending late-pending strange-batch long-batch order-batch = simp (or-assoc, or-comm, or-swap, or-false)
 
 some-tab : {A : Type 0} (f : ℕ → A) (i n : ℕ) → nonEmpty (tab f i n) ≡ ltb 0 n
 unfolding nonEmpty tab
@@ -62,7 +63,7 @@ ruled h edges pending processes batch r e =
     let w : not (eqb (length (horizonsOf (h .n) processes)) (h .n)) ≡ false = not-of-true _ (eq-eqb _ _ (length-tab (tickOf processes) 0 (h .n))) in
     let m : not (eqb (length (inboundsOf (h .n) processes)) (h .n)) ≡ false = not-of-true _ (eq-eqb _ _ (length-tab (inboundAt processes) 0 (h .n))) in
     rw (w, m, length-tab (edgeAt edges) 0 (h .edges), length-tab (eventAt pending) 0 (h .pending), length-tab (eventAt batch) 0 (h .batch), some-tab (eventAt batch) 0 (h .batch))
-    (e ∙ regrouped _ _ _ _ _ _ _ _ _ _ _ _ _ _ _ _ _ _ _)
+    (e ∙ regrouped _ _ _ _ _ _ _ _ _ _ _ _ _ _ _ _ _ _ _ _)
 
 -- What the answer x of `is_foreign` tells of the state.
 pub foreign-is : (s : Runtime) (x b : Bool) → IsForeign (s .head) (s .edges) (s .pending) (s .processes) (s .batch) x → x ≡ b → foreign (viewOf s) ≡ b

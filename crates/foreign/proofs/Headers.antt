@@ -55,7 +55,7 @@ module _ (h : Header) (r : Bool) (e : r ≡ anyOf (headerTests h)) (f : r ≡ fa
   few-processes = ltb-false 64 (h .n) (alls (sizeTests h) (passed .0) .1 .0)
 
   module _ (l : ℕ) where
-    pub edges-there : l ≡ 2048 → 4 * h .edges ≤ l
+    pub edges-there : l ≡ 3072 → 6 * h .edges ≤ l
     edges-there m = omega (arith, ltb-false 512 (h .edges) (within .0))
 
     pub pending-there : l ≡ 4096 → 8 * h .pending ≤ l

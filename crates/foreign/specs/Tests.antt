@@ -10,7 +10,7 @@ use Rattle.rules.specs.Base.{upTo, any, anyOf, rising}
 use Rattle.rules.specs.State.{Event, Edge, Stored, maxProcesses, maxEdges, maxPending}
 use Rattle.rules.specs.Pending.{before}
 use Rattle.rules.specs.Frontiers.{leastInbound, recorded}
-use Rattle.rules.specs.Foreign.{unknownIdEdge, duplicateOrSelfEdges, horizonIsMax, isUnset, byProcess, foreign}
+use Rattle.rules.specs.Foreign.{unknownIdEdge, duplicateOrSelfEdges, withoutLookahead, horizonIsMax, isUnset, byProcess, foreign}
 use Rattle.foreign_events.specs.Clauses.{anyInvalidEvent, anySequenceNotBelow}
 use Rattle.state.specs.declared.Header.{Header}
 use Rattle.state.specs.View.{view, storedOf}
@@ -33,12 +33,12 @@ runTests h = horizonIsMax (storedIn h) ∷ (h .running && isUnset (storedIn h)) 
 abbrev pub headerTests : Header → List Bool
 headerTests h = anyOf (sizeTests h) ∷ anyOf (countTests h) ∷ anyOf (runTests h) ∷ []
 
--- "an id not below n, an edge twice or to its own source"; and A.2's record m: "A state where it is wrong is foreign"
+-- "an id not below n"; A.4: "an edge lookahead of 0"; "an edge twice or to its own source"; and A.2's record m: "A state where it is wrong is foreign"
 abbrev pub wrongIn : ℕ → List Edge → List ℕ → Bool
 wrongIn n es m = any (λ p. not (eqb (recorded m p) (leastInbound es p))) (upTo n)
 
 abbrev pub edgeTests : ℕ → List Edge → List ℕ → List Bool
-edgeTests n es m = any (unknownIdEdge n) es ∷ duplicateOrSelfEdges es ∷ wrongIn n es m ∷ []
+edgeTests n es m = any (unknownIdEdge n) es ∷ any withoutLookahead es ∷ duplicateOrSelfEdges es ∷ wrongIn n es m ∷ []
 
 -- Process p has another least inbound bound in w than in u.
 abbrev pub differsAt : List ℕ → List ℕ → ℕ → Bool

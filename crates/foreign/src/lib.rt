@@ -81,7 +81,7 @@ fn invalid_header(head: Header) -> bool
 
 // The pass over the edges makes the record anew, and the state's is held against it.
 fn invalid_edges<'a>(edges: &'a [u64], count: usize, n: u64, processes: &'a [u64]) -> bool
-    requires { ⌜ (4 * count ≤ length (now edges)) × (n ≤ 64) × (length (now processes) ≡ 256) ⌝ }
+    requires { ⌜ (6 * count ≤ length (now edges)) × (n ≤ 64) × (length (now processes) ≡ 256) ⌝ }
     ensures { λ r. ⌜ r ≡ anyOf (edgeTests n (edgesOf count (now (edges .entry))) (inboundsOf n (now (processes .entry)))) ⌝ }
 {
     let mut made = [0u64; 256];
@@ -149,7 +149,7 @@ pub fn is_foreign<'a>(
     processes: &'a [u64],
     batch: &'a [u64],
 ) -> bool
-    requires { ⌜ (length (now edges) ≡ 2048) × (length (now pending) ≡ 4096) × (length (now processes) ≡ 256) × (length (now batch) ≡ 512) ⌝ }
+    requires { ⌜ (length (now edges) ≡ 3072) × (length (now pending) ≡ 4096) × (length (now processes) ≡ 256) × (length (now batch) ≡ 512) ⌝ }
     ensures { λ r. ⌜ IsForeign head (now (edges .entry)) (now (pending .entry)) (now (processes .entry)) (now (batch .entry)) r ⌝ }
 {
     if invalid_header(head) {

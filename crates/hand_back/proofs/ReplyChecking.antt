@@ -4,8 +4,8 @@ use mathlib.Core.Bool.{Bool, true, false, not, _||_}
 use mathlib.Core.List.{List, []}
 use Prim.Native.Nat.{ℕ, _+_, _*_, _/_, _≤_, _<_}
 use native.Mathlib.Omega.{arith}
-use lib.ListN.{length}
-use Rattle.words.specs.Words.{tab}
+use lib.ListN.{length, getD, length-replicate}
+use Rattle.words.specs.Words.{tab, zeroes}
 use Rattle.words.proofs.Tab.{length-tab}
 use Rattle.records.specs.Records.{edgesOf, eventsOf}
 use Rattle.rules.specs.Base.{if_then_else_, count}
@@ -14,13 +14,14 @@ use Rattle.rules.specs.History as H
 use Rattle.rules.specs.Pending.{queue}
 use Rattle.rules.specs.HandBack.{Emission, malformed, messages}
 use Rattle.rules.proofs.Tests.{by-bool, not-both, not-true, not-false}
-use Rattle.edges.specs.Routes.{Routes}
+use Rattle.hand_back_edges.specs.Looks.{Looks, lookIn, Rows, CanFind, Found, CanLook}
+use Rattle.hand_back_edges.proofs.PlaceRows.{rows-of, noughts}
 use Rattle.reply_words.specs.Emissions.{emissionAt, emissionsOf}
 use Rattle.reply_words.specs.Replies.{Places, failedNotInBatch, FailedNotInBatch, anyMalformedEmission}
 use Rattle.reply_words.proofs.MalformedReply.{malformed-in-turn}
 use Rattle.hand_back_emission.specs.declared.CheckResult.{CheckResult}
 use Rattle.hand_back_emission.proofs.InHand.{findable}
-use Rattle.hand_back_emission.proofs.KnownEdges.{routable}
+use Rattle.hand_back_emission.proofs.KnownEdges.{edges-there, edges-known, edges-ahead}
 use Rattle.hand_back_enqueue.specs.declared.Tail.{Tail}
 use Rattle.hand_back_enqueue.specs.Enqueued.{Enqueueable, Enqueued}
 use Rattle.hand_back_check.specs.declared.ReplyCheck.{ReplyCheck}
@@ -33,13 +34,13 @@ use Rattle.state.specs.declared.Answer.{Answer}
 use Rattle.state.specs.declared.Answer.the-variants as P
 use Rattle.state.specs.declared.CoreResult.{CoreResult}
 use Rattle.state.specs.ValidArrays.{ValidArrays}
-use Rattle.state.proofs.Facts.{few-processes, few-batch, in-order, newest, below-top, batch-runs}
+use Rattle.state.proofs.Facts.{few-processes, few-edges, few-batch, in-order, newest, below-top, batch-runs}
 use Rattle.state.proofs.Deciding.{passes, refuses}
 use Rattle.hand_back_end.specs.EndsRound.{Poisons}
 use Rattle.hand_back_commit.specs.HandsBack.{HandsBack}
 use Rattle.hand_back_commit.specs.Commits.{InHand, ReplyChecked, Finishes, FinalCheck, CanEnd, Ends}
 use Rattle.hand_back_commit.proofs.Back.{back-poisoned, back-empty, back-malformed}
-use Rattle.hand_back.specs.ReplyChecks.{repliedOf, asGivenTo, Passed, EarlyRows, Ready, Started, Begins, ChecksReply, CanCommit, Commits}
+use Rattle.hand_back.specs.ReplyChecks.{repliedOf, asGivenTo, Passed, EarlyRows, Ready, Started, Begins, CanReview, ChecksReply, CanCommit, Commits}
 
 -- 12 and 25.
 module _ (h : Header) where
@@ -59,9 +60,11 @@ module _ (h : Header) where
 pub ready : (h : Header) (E Q Z B : List ℕ) → ValidArrays h E Q Z B → Ready h E B
 ready h E Q Z B l = record {
   few = few-processes h E Q Z B (l .passes);
+  few-edges = few-edges h E Q Z B (l .passes);
   few-batch = few-batch h E Q Z B (l .passes);
-  edge-words = routable h E Q Z B l .0;
-  wired = routable h E Q Z B l .1;
+  edge-words = edges-there h E Q Z B l;
+  wired = edges-known h E Q Z B l;
+  ahead = edges-ahead h E Q Z B l;
   batch-words = findable h E Q Z B l .0;
   owners = findable h E Q Z B l .1;
 }
@@ -112,16 +115,16 @@ module _ (h : Header) (E Z B : List ℕ) (mask : ℕ) (s : ReplyCheck) (T : List
   unfolding tab
   checks-empty w e = rw e checks-none
 
--- From its start to the last emission, with the table R of routes.
-module _ (h : Header) (E Z B : List ℕ) (mask : ℕ) (s : ReplyCheck) (R T : List ℕ) (y : Ready h E B) (z : length Z ≡ 256) (w : length B ≡ 512) (n : length R ≡ 64) (rs : Routes (edgesOf (h .edges) E) R) (b : Begins h B mask s T) where
-  pub begun : CheckStarted h R T Z B s
+-- From its start to the last emission, where look tells of the edges.
+module _ (h : Header) (E Z B : List ℕ) (mask : ℕ) (s : ReplyCheck) (T : List ℕ) (y : Ready h E B) (z : length Z ≡ 256) (w : length B ≡ 512) (b : Begins h B mask s T) where
+  pub begun : CheckStarted h T Z B s
   begun = record {
     started = λ g. let t = b .started g .start in t ∙ (λ i. startOf (ap (λ (x : ReplyCheck). x .mask) (sym t) i) (ap (λ (x : ReplyCheck). x .failed) (sym t) i));
     checkable = λ g. let t = b .started g in
-        record { few = y .few; few-batch = y .few-batch; route-words = n; place-words = t .place-words; process-words = z; batch-words = w; places = t .places };
+        record { few = y .few; few-batch = y .few-batch; place-words = t .place-words; process-words = z; batch-words = w; places = t .places };
   }
 
-  module _ (xs : List Emission) (a : ReplyCheck) (t : Checked h R T Z B s xs a) where
+  module _ (look : ℕ → ℕ → ℕ) (rs : Looks (edgesOf (h .edges) E) T look) (xs : List Emission) (a : ReplyCheck) (t : Checked h look T Z B s xs a) where
     mask-is : s .going ≡ true → s .mask ≡ mask
     mask-is g = ap (λ (x : ReplyCheck). x .mask) (b .started g .start)
 
@@ -132,7 +135,7 @@ module _ (h : Header) (E Z B : List ℕ) (mask : ℕ) (s : ReplyCheck) (R T : Li
         rw e (rw (mask-is g) at (t .not-malformed g))
 
     was : a .going ≡ true → s .going ≡ true
-    was g = was-going h R T Z B s begun xs a t g
+    was g = was-going h look T Z B s begun xs a t g
 
     malformed-now : a .going ≡ false → s .going ≡ true → (c : Counters) (Q : List ℕ) → ValidArrays h E Q Z B → HandsBack h c E Q Z B mask xs (asGivenTo h c a) Q Z B
     malformed-now n g c Q l =
@@ -147,10 +150,52 @@ module _ (h : Header) (E Z B : List ℕ) (mask : ℕ) (s : ReplyCheck) (R T : Li
         number = refl;
         not-malformed = not-true _ (sym (not-malformed (was g)) ∙ g);
         failed-is = t .same-failed ∙ ap (λ (x : ReplyCheck). x .failed) (e .start);
-        outcome-is = rw (t .same-failed) (t .outcome-is g E Q B rs);
+        outcome-is = rw (t .same-failed) (t .outcome-is g E Q B (y .ahead) rs);
         remote = t .remote g;
       };
     }
+
+-- The same with a table t of rows for n events.
+module _ (h : Header) (E Z B : List ℕ) (s : ReplyCheck) (T : List ℕ) (n : ℕ) (c : CanReview h E Z B s T n) where
+  begins : Begins h B (s .mask) s T
+  begins = record { refused = λ g. not-both (ap (λ (x : ReplyCheck). x .going) (c .started .start)) g; started = λ _. c .started }
+
+  pub review-begun : CheckStarted h T Z B s
+  review-begun = begun h E Z B (s .mask) s T (c .ready) (c .process-words) (c .batch-words) begins
+
+  module _ (t : List ℕ) (l : length t ≡ 64 * n) where
+    rows : Rows T (length t)
+    rows = rw l (rows-of B (h .batch) T (c .started .places) (64 * n) (c .started .place-words) (omega (arith, c .rows)))
+
+    pub review-looks : Found E (h .edges) T t → CanLook E t T
+    review-looks f = record { rows = rows; entries = λ j. omega (arith, f .entries j, c .ready .edge-words) }
+
+    pub reviewed : Found E (h .edges) T t → (xs : List Emission) (r : ReplyCheck) → Checked h (lookIn E t T) T Z B s xs r → ChecksReply h E Z B (s .mask) xs r
+    reviewed f = checks-reply h E Z B (s .mask) s T (c .ready) (c .process-words) (c .batch-words) begins (lookIn E t T) (f .looks)
+
+  pub review-finds : (t : List ℕ) → t ≡ zeroes (64 * n) → CanFind E (h .edges) T t
+  review-finds t e = record {
+    edge-words = c .ready .edge-words;
+    few = c .ready .few-edges;
+    known = c .ready .wired;
+    rows = rows t (ap length e ∙ length-replicate (64 * n) 0);
+    empty = λ j. ap (λ (x : List ℕ). getD x j 0) e ∙ noughts (64 * n) j;
+  }
+
+-- With rows for fewer events.
+pub reviewable : (h : Header) (E Z B : List ℕ) (s : ReplyCheck) (T : List ℕ) (m n : ℕ) → CanReview h E Z B s T m → h .batch ≤ n → CanReview h E Z B s T n
+reviewable h E Z B s T m n c l = record { ready = c .ready; process-words = c .process-words; batch-words = c .batch-words; started = c .started; rows = l }
+
+-- The check of a reply that has started.
+module _ (h : Header) (E Z B : List ℕ) (mask : ℕ) (s : ReplyCheck) (T : List ℕ) (y : Ready h E B) (z : length Z ≡ 256) (w : length B ≡ 512) (b : Begins h B mask s T) (g : s .going ≡ true) where
+  own-mask : mask ≡ s .mask
+  own-mask = sym (ap (λ (x : ReplyCheck). x .mask) (b .started g .start))
+
+  pub can-review : CanReview h E Z B s T 64
+  can-review = record { ready = y; process-words = z; batch-words = w; started = rw own-mask at (b .started g); rows = y .few-batch }
+
+  pub checks-all : (xs : List Emission) (r : ReplyCheck) → ChecksReply h E Z B (s .mask) xs r → ChecksReply h E Z B mask xs r
+  checks-all xs r c = rw own-mask c
 
 -- A reply in words.
 module _ (w : List ℕ) where

@@ -10,7 +10,7 @@ use Rattle.records.specs.Records.{edgesOf, eventsOf, Owners}
 use Rattle.rules.specs.Base.{any, rising}
 use Rattle.rules.specs.Pending.{before}
 use Rattle.rules.specs.HandBack.{Emission}
-use Rattle.rules.specs.Foreign.{unknownIdEdge}
+use Rattle.rules.specs.Foreign.{withoutLookahead, unknownIdEdge}
 use Rattle.reply_words.specs.Emissions.{emissionsOf}
 use Rattle.reply_words.specs.Replies.{Places, failedNotInBatch}
 use Rattle.hand_back_check.specs.declared.ReplyCheck.{ReplyCheck}
@@ -42,12 +42,14 @@ pub record Passed (h : Header) : Type 0 where
 abbrev pub EarlyRows : Header → Answer → Type 0
 EarlyRows h a = RefusalOr a (Passed h) ((c : Counters) (mask : ℕ) (xs : List Emission) (E P Z B : List ℕ) → ValidArrays h E P Z B → HandsBack h c E P Z B mask xs (record { answer = a; head = h; counters = c }) P Z B)
 
--- What the tables of routes and places are made of, in a state that 11 let pass.
+-- What the tables of edges and places are made of, in a state that 11 let pass.
 pub record Ready (h : Header) (edges batch : List ℕ) : Type 0 where
   pub few : h .n ≤ 64
+  pub few-edges : h .edges ≤ 512
   pub few-batch : h .batch ≤ 64
-  pub edge-words : 4 * h .edges ≤ length edges
+  pub edge-words : 6 * h .edges ≤ length edges
   pub wired : any (unknownIdEdge 64) (edgesOf (h .edges) edges) ≡ false
+  pub ahead : any withoutLookahead (edgesOf (h .edges) edges) ≡ false
   pub batch-words : 8 * h .batch ≤ length batch
   pub owners : Owners (h .batch) batch
 
@@ -63,6 +65,14 @@ pub record Started (h : Header) (batch : List ℕ) (mask : ℕ) (a : ReplyCheck)
 pub record Begins (h : Header) (batch : List ℕ) (mask : ℕ) (a : ReplyCheck) (T : List ℕ) : Type 0 where
   pub refused : a .going ≡ false → (c : Counters) (xs : List Emission) (E P Z : List ℕ) → ValidArrays h E P Z batch → HandsBack h c E P Z batch mask xs (asGivenTo h c a) P Z batch
   pub started : a .going ≡ true → Started h batch mask a T
+
+-- What the check of emissions asks, with a table that has rows for n events: it has started.
+pub record CanReview (h : Header) (edges processes batch : List ℕ) (a : ReplyCheck) (T : List ℕ) (n : ℕ) : Type 0 where
+  pub ready : Ready h edges batch
+  pub process-words : length processes ≡ 256
+  pub batch-words : length batch ≡ 512
+  pub started : Started h batch (a .mask) a T
+  pub rows : h .batch ≤ n
 
 -- The emissions xs are checked: the call is refused with all as given, or its round is queued or lost.
 pub record ChecksReply (h : Header) (edges processes batch : List ℕ) (mask : ℕ) (xs : List Emission) (a : ReplyCheck) : Type 0 where

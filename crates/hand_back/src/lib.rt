@@ -14,7 +14,7 @@ ghost use Rattle.records.specs.Records.{Owners};
 ghost use Rattle.reply_words.specs.Emissions.{emissionsOf};
 ghost use Rattle.state.specs.ValidArrays.{ValidArrays};
 ghost use Rattle.hand_back_commit.specs.HandsBack.{HandsBack};
-ghost use Rattle.hand_back.specs.ReplyChecks.{repliedOf, EarlyRows, Ready, Begins, ChecksReply, asGivenTo, CanCommit, Commits};
+ghost use Rattle.hand_back.specs.ReplyChecks.{repliedOf, EarlyRows, Ready, Begins, CanReview, ChecksReply, asGivenTo, CanCommit, Commits};
 
 // Rows 12 and 25.
 fn refusal(head: Header) -> Answer
@@ -47,6 +47,117 @@ pub fn begin_check(head: Header, batch: &[u64], mask: u64, places: &mut [u64]) -
     start
 }
 
+// The emissions of a reply in words, with two events in hand at most. Its table is made for each reply,
+// and a small one is cleared sooner.
+fn review_two<'a>(
+    head: Header,
+    edges: &'a [u64],
+    places: &'a [u64],
+    processes: &'a [u64],
+    batch: &'a [u64],
+    start: ReplyCheck,
+    reply: &'a [u64],
+    count: usize,
+) -> ReplyCheck
+    requires { ⌜ CanReview head (now edges) (now processes) (now batch) start (now places) 2 × (8 * count ≤ length (now reply)) ⌝ }
+    ensures { λ r. ⌜ ChecksReply head (now (edges .entry)) (now (processes .entry)) (now (batch .entry)) (start .mask) (emissionsOf count (now (reply .entry))) r ⌝ }
+{
+    let mut table = [0u16; 128];
+    hand_back_edges::find_edges(edges, head.edges, places, &mut table);
+    hand_back_check::check_words(
+        head,
+        edges,
+        &table,
+        places,
+        processes,
+        batch,
+        start,
+        reply,
+        count,
+    )
+}
+
+// The same with 16 events in hand at most.
+fn review_sixteen<'a>(
+    head: Header,
+    edges: &'a [u64],
+    places: &'a [u64],
+    processes: &'a [u64],
+    batch: &'a [u64],
+    start: ReplyCheck,
+    reply: &'a [u64],
+    count: usize,
+) -> ReplyCheck
+    requires { ⌜ CanReview head (now edges) (now processes) (now batch) start (now places) 16 × (8 * count ≤ length (now reply)) ⌝ }
+    ensures { λ r. ⌜ ChecksReply head (now (edges .entry)) (now (processes .entry)) (now (batch .entry)) (start .mask) (emissionsOf count (now (reply .entry))) r ⌝ }
+{
+    let mut table = [0u16; 1024];
+    hand_back_edges::find_edges(edges, head.edges, places, &mut table);
+    hand_back_check::check_words(
+        head,
+        edges,
+        &table,
+        places,
+        processes,
+        batch,
+        start,
+        reply,
+        count,
+    )
+}
+
+// The same with any number of events in hand.
+fn review_all<'a>(
+    head: Header,
+    edges: &'a [u64],
+    places: &'a [u64],
+    processes: &'a [u64],
+    batch: &'a [u64],
+    start: ReplyCheck,
+    reply: &'a [u64],
+    count: usize,
+) -> ReplyCheck
+    requires { ⌜ CanReview head (now edges) (now processes) (now batch) start (now places) 64 × (8 * count ≤ length (now reply)) ⌝ }
+    ensures { λ r. ⌜ ChecksReply head (now (edges .entry)) (now (processes .entry)) (now (batch .entry)) (start .mask) (emissionsOf count (now (reply .entry))) r ⌝ }
+{
+    let mut table = [0u16; 4096];
+    hand_back_edges::find_edges(edges, head.edges, places, &mut table);
+    hand_back_check::check_words(
+        head,
+        edges,
+        &table,
+        places,
+        processes,
+        batch,
+        start,
+        reply,
+        count,
+    )
+}
+
+// The emissions of a reply in words, by the smallest table that has a row for each event in hand.
+fn review<'a>(
+    head: Header,
+    edges: &'a [u64],
+    places: &'a [u64],
+    processes: &'a [u64],
+    batch: &'a [u64],
+    start: ReplyCheck,
+    reply: &'a [u64],
+    count: usize,
+) -> ReplyCheck
+    requires { ⌜ CanReview head (now edges) (now processes) (now batch) start (now places) 64 × (8 * count ≤ length (now reply)) ⌝ }
+    ensures { λ r. ⌜ ChecksReply head (now (edges .entry)) (now (processes .entry)) (now (batch .entry)) (start .mask) (emissionsOf count (now (reply .entry))) r ⌝ }
+{
+    if head.batch <= 2 {
+        return review_two(head, edges, places, processes, batch, start, reply, count);
+    }
+    if head.batch <= 16 {
+        return review_sixteen(head, edges, places, processes, batch, start, reply, count);
+    }
+    review_all(head, edges, places, processes, batch, start, reply, count)
+}
+
 // The check of a reply in words. Edges are read for emissions alone: a reply without any does not walk
 // them.
 fn check_reply<'a>(
@@ -66,18 +177,7 @@ fn check_reply<'a>(
     if !start.going || count == 0 {
         return start;
     }
-    let mut routes = [0u64; 64];
-    edges::find_routes(edges, head.edges, &mut routes);
-    hand_back_check::check_words(
-        head,
-        &routes,
-        &places,
-        processes,
-        batch,
-        start,
-        reply,
-        count,
-    )
+    review(head, edges, &places, processes, batch, start, reply, count)
 }
 
 // The refusals that leave the state as given.

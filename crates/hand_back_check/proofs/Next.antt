@@ -22,7 +22,7 @@ use Rattle.records.specs.Records.{eventAt, eventsOf}
 use Rattle.records.proofs.Stored.{event-tick}
 use Rattle.reply_words.specs.declared.Emission.{Emission}
 use Rattle.reply_words.specs.Emissions.{emissionOf}
-use Rattle.reply_words.specs.Replies.{MalformedEmission, malformedEmission}
+use Rattle.reply_words.specs.Replies.{Places, MalformedEmission, malformedEmission}
 use Rattle.reply_words.proofs.Table.{absent, past-end, place-first}
 use Rattle.hand_back_emission.specs.declared.CheckResult.{CheckResult}
 use Rattle.hand_back_emission.specs.Checks.{CanCheck, ChecksEmission}
@@ -48,35 +48,42 @@ emitting : (q : List Event) (mask last : ℕ) (x : Rule.Emission) → malformedE
 unfolding malformedEmission anyOf any
 emitting q mask last x h = or-left (not (inBatch q (x .emitter))) _ (or-right (ltb (x .emitter) last) _ h)
 
-module _ (h : Header) (R T Z B : List ℕ) (a : ReplyCheck) (e : Emission) where
+-- So it has a place in the table T.
+pub seated : (q : List Event) (T : List ℕ) (mask last : ℕ) (x : Rule.Emission) → Places q T → malformedEmission q mask last x ≡ false → getD T (x .emitter) 0 ≡ 0 → ⊥
+seated q T mask last x p h = eqb-false (getD T (x .emitter) 0) 0 (sym (absent q T (x .emitter) p) ∙ emitting q mask last x h)
+
+pub judgeable : (h : Header) (T Z B : List ℕ) → Checkable h T Z B → CanCheck h Z
+judgeable h T Z B s = record { few = s .few; process-words = s .process-words }
+
+module _ (h : Header) (L : ℕ) (T Z B : List ℕ) (a : ReplyCheck) (e : Emission) where
   abbrev q : List Event
   q = eventsOf (h .batch) B
 
   -- The check so far stays.
-  stays-refused : (t : ℕ) → a .outcome .passed ≡ false → NextResult h R Z t a e (a .outcome)
+  stays-refused : (t : ℕ) → a .outcome .passed ≡ false → NextResult h L Z t a e (a .outcome)
   unfolding NextResult
-  stays-refused t x E Q W w rs j = checks-front rs _ (a .outcome) j x
+  stays-refused t x E Q W f w rs j = checks-front rs _ (a .outcome) j x
 
-  stays-behind : (t : ℕ) → a .failed < lpIdOf (e .emitter) → NextResult h R Z t a e (a .outcome)
+  stays-behind : (t : ℕ) → a .failed < lpIdOf (e .emitter) → NextResult h L Z t a e (a .outcome)
   unfolding NextResult rowsOfNext if_then_else_
-  stays-behind t l E Q W w rs j = rw (lt-ltb (a .failed) (lpIdOf (e .emitter)) l, append-nil) j
+  stays-behind t l E Q W f w rs j = rw (lt-ltb (a .failed) (lpIdOf (e .emitter)) l, append-nil) j
 
-  checks-it : a .outcome .passed ≡ true → lpIdOf (e .emitter) ≤ a .failed → (time : SimTime) → (v : CheckResult) → ChecksEmission h R Z e time v → NextResult h R Z (ticksOf time) a e v
+  checks-it : a .outcome .passed ≡ true → lpIdOf (e .emitter) ≤ a .failed → (time : SimTime) → (v : CheckResult) → ChecksEmission h L Z e time v → NextResult h L Z (ticksOf time) a e v
   unfolding NextResult rowsOfNext if_then_else_ ChecksEmission
-  checks-it x l time v j E Q W w rs k = rw (le-ltb (a .failed) (lpIdOf (e .emitter)) l) (checks-same _ _ v (same-behind rs _ (a .outcome) k x) (j E Q W w))
+  checks-it x l time v j E Q W f w rs k = rw (le-ltb (a .failed) (lpIdOf (e .emitter)) l) (checks-same _ _ v (same-behind rs _ (a .outcome) k x) (j E Q W f w))
 
-  pub check-stopped : a .going ≡ false → Checks h R T Z B a e a
+  pub check-stopped : a .going ≡ false → Checks h L T Z B a e a
   check-stopped g = record { stopped = λ _. refl; next = λ y. not-both y g }
 
-  module _ (g : a .going ≡ true) (s : Checkable h R T Z B) (x : Bool) (ill : MalformedEmission (a .mask) T (a .last) (emissionOf e) x) where
+  module _ (g : a .going ≡ true) (s : Checkable h T Z B) (x : Bool) (ill : MalformedEmission (a .mask) T (a .last) (emissionOf e) x) where
     ill-is : x ≡ malformedEmission q (a .mask) (a .last) (emissionOf e)
     unfolding MalformedEmission
     ill-is = ill q (s .places)
 
-    from-next : (r : ReplyCheck) → ChecksNext h R T Z B a e r → Checks h R T Z B a e r
+    from-next : (r : ReplyCheck) → ChecksNext h L T Z B a e r → Checks h L T Z B a e r
     from-next r n = record { stopped = λ y. not-both g y; next = λ _. n }
 
-    pub check-malformed : x ≡ true → (r : ReplyCheck) → r ≡ refusedWith a P.MalformedReply → Checks h R T Z B a e r
+    pub check-malformed : x ≡ true → (r : ReplyCheck) → r ≡ refusedWith a P.MalformedReply → Checks h L T Z B a e r
     check-malformed t r y = from-next r (rw y (record {
       same-mask = refl;
       same-failed = refl;
@@ -90,7 +97,7 @@ module _ (h : Header) (R T Z B : List ℕ) (a : ReplyCheck) (e : Emission) where
     module _ (f : x ≡ false) (w : ℕ) (same : w ≡ lpIdOf (e .emitter)) where
       -- The emitter has an event in hand.
       seat : getD T (lpIdOf (e .emitter)) 0 ≡ 0 → ⊥
-      seat = eqb-false (getD T (lpIdOf (e .emitter)) 0) 0 (sym (absent q T (lpIdOf (e .emitter)) (s .places)) ∙ emitting q (a .mask) (a .last) (emissionOf e) (sym ill-is ∙ f))
+      seat = seated q T (a .mask) (a .last) (emissionOf e) (s .places) (sym ill-is ∙ f)
 
       placed : getD T (lpIdOf (e .emitter)) 0 ≡ getD T (lpIdOf (e .emitter)) 0 - 1 + 1
       placed = omega (arith, seat)
@@ -99,7 +106,7 @@ module _ (h : Header) (R T Z B : List ℕ) (a : ReplyCheck) (e : Emission) where
       unfolding firstTick tickOr
       tick-is = let p = place-first B (h .batch) T (lpIdOf (e .emitter)) (getD T (lpIdOf (e .emitter)) 0 - 1) (s .places) placed in rw (p .1)
 
-      pub emitter-fits : lpIdOf (e .emitter) < 64
+      emitter-fits : lpIdOf (e .emitter) < 64
       emitter-fits = ⊎-elim (λ (l : lpIdOf (e .emitter) < 64). l) (λ (l : 64 ≤ lpIdOf (e .emitter)). absurd (seat (past-end T (lpIdOf (e .emitter)) (s .place-words) l))) (lt-or-ge (lpIdOf (e .emitter)) 64)
 
       pub in-hand : (length T ≡ 64) × (length B ≡ 512) × (w < 64) × (0 < getD T w 0) × (getD T w 0 ≤ 64)
@@ -107,11 +114,8 @@ module _ (h : Header) (R T Z B : List ℕ) (a : ReplyCheck) (e : Emission) where
           let p = place-first B (h .batch) T (lpIdOf (e .emitter)) (getD T (lpIdOf (e .emitter)) 0 - 1) (s .places) placed in
           rw same (s .place-words, s .batch-words, emitter-fits, omega (arith, seat), omega (arith, p .0, s .few-batch))
 
-      pub judgeable : CanCheck h R Z × (lpIdOf (e .emitter) < 64)
-      judgeable = (record { few = s .few; route-words = s .route-words; process-words = s .process-words }, emitter-fits)
-
       module _ (m : ℕ) (c : m ≡ counted (a .remote) (emissionOf e)) where
-        next : (v : CheckResult) → NextResult h R Z (firstTick q (lpIdOf (e .emitter)) 0) a e v → (r : ReplyCheck) → r ≡ checkedAs a w m v → Checks h R T Z B a e r
+        next : (v : CheckResult) → NextResult h L Z (firstTick q (lpIdOf (e .emitter)) 0) a e v → (r : ReplyCheck) → r ≡ checkedAs a w m v → Checks h L T Z B a e r
         next v n r y = from-next r (rw y (record {
           same-mask = refl;
           same-failed = refl;
@@ -122,14 +126,14 @@ module _ (h : Header) (R T Z B : List ℕ) (a : ReplyCheck) (e : Emission) where
           outcome-is = λ _. n;
         }))
 
-        pub check-refused : a .outcome .passed ≡ false → (r : ReplyCheck) → r ≡ checkedAs a w m (a .outcome) → Checks h R T Z B a e r
+        pub check-refused : a .outcome .passed ≡ false → (r : ReplyCheck) → r ≡ checkedAs a w m (a .outcome) → Checks h L T Z B a e r
         check-refused y r z = next (a .outcome) (stays-refused _ y) r z
 
-        pub check-behind : a .failed < w → (r : ReplyCheck) → r ≡ checkedAs a w m (a .outcome) → Checks h R T Z B a e r
+        pub check-behind : a .failed < w → (r : ReplyCheck) → r ≡ checkedAs a w m (a .outcome) → Checks h L T Z B a e r
         check-behind l r z = next (a .outcome) (stays-behind _ (rw same at l)) r z
 
-        pub check-checked : a .outcome .passed ≡ true → w ≤ a .failed → (time : SimTime) → ticksOf time ≡ tickOf T B w → (v : CheckResult) → ChecksEmission h R Z e time v
-            → (r : ReplyCheck) → r ≡ checkedAs a w m v → Checks h R T Z B a e r
+        pub check-checked : a .outcome .passed ≡ true → w ≤ a .failed → (time : SimTime) → ticksOf time ≡ tickOf T B w → (v : CheckResult) → ChecksEmission h L Z e time v
+            → (r : ReplyCheck) → r ≡ checkedAs a w m v → Checks h L T Z B a e r
         check-checked y l time u v j r z =
             let t : ticksOf time ≡ firstTick q (lpIdOf (e .emitter)) 0 = u ∙ ap (tickOf T B) same ∙ tick-is in
             next v (rw (← t) (checks-it y (rw same at l) time v j)) r z

@@ -2,21 +2,23 @@
 // nothing. Each is checked by 26 and by 28 to 33, unless something is refused already; 27 stands between
 // the emissions of the processes before the first failed one and of those behind it.
 //
-// The tables are made once for a reply: the routes (`edges`) and the place of each process's event in
-// the batch (`reply_words`).
+// The tables are made once for a reply: the edges from each process in hand (`hand_back_edges`) and the
+// place of each process's event in the batch (`reply_words`).
 use hand_back_emission::CheckResult;
 use reply_words::Emission;
 use state::Answer;
 use state::Header;
 use types::MAX_PROCESSES;
+use types::SimDuration;
 use types::SimTime;
 ghost use mathlib.Core.Path.{_≡_};
 ghost use mathlib.Core.Bool.{true};
 ghost use Prim.Native.Nat.{_*_, _≤_, _<_};
 ghost use lib.ListN.{length, getD};
-ghost use Rattle.types.specs.Value.{ticksOf};
+ghost use Rattle.types.specs.Value.{ticksOf, durationOf};
 ghost use Rattle.records.specs.Records.{eventsOf, Owners};
 ghost use Rattle.reply_words.specs.Emissions.{emissionOf, emissionsOf};
+ghost use Rattle.hand_back_edges.specs.Looks.{lookIn, CanLook};
 ghost use Rattle.hand_back_check.specs.EmissionRows.{counted, firstFailed};
 ghost use Rattle.hand_back_check.specs.Checks.{Checkable, startOf, refusedWith, checkedAs, tickOf, Checks, CheckStarted, Checked};
 
@@ -110,18 +112,18 @@ fn checked(a: ReplyCheck, p: u64, remote: u64, verdict: CheckResult) -> ReplyChe
 }
 
 // 26 of the emission e, then 28 to 33 unless something is refused already or a process before e's
-// failed.
+// failed; `lookahead` is that of the edge that e goes along.
 pub fn check<'a>(
     head: Header,
-    routes: &'a [u64],
+    lookahead: SimDuration,
     places: &'a [u64],
     processes: &'a [u64],
     batch: &'a [u64],
     a: ReplyCheck,
     e: Emission,
 ) -> ReplyCheck
-    requires { ⌜ (a .going ≡ true → Checkable head (now routes) (now places) (now processes) (now batch)) ⌝ }
-    ensures { λ r. ⌜ Checks head (now (routes .entry)) (now (places .entry)) (now (processes .entry)) (now (batch .entry)) a e r ⌝ }
+    requires { ⌜ (a .going ≡ true → Checkable head (now places) (now processes) (now batch)) ⌝ }
+    ensures { λ r. ⌜ Checks head (durationOf lookahead) (now (places .entry)) (now (processes .entry)) (now (batch .entry)) a e r ⌝ }
 {
     if !a.going {
         return a;
@@ -139,14 +141,15 @@ pub fn check<'a>(
         return checked(a, emitter, remote, so_far);
     }
     let time = tick_of(places, batch, emitter);
-    let verdict = hand_back_emission::check_emission(head, routes, processes, e, time);
+    let verdict = hand_back_emission::check_emission(head, lookahead, processes, e, time);
     checked(a, emitter, remote, verdict)
 }
 
 // The emissions of a reply in words, each in turn.
 pub fn check_words<'a>(
     head: Header,
-    routes: &'a [u64],
+    edges: &'a [u64],
+    table: &'a [u16],
     places: &'a [u64],
     processes: &'a [u64],
     batch: &'a [u64],
@@ -154,14 +157,15 @@ pub fn check_words<'a>(
     reply: &'a [u64],
     count: usize,
 ) -> ReplyCheck
-    requires { ⌜ CheckStarted head (now routes) (now places) (now processes) (now batch) start × (8 * count ≤ length (now reply)) ⌝ }
-    ensures { λ r. ⌜ Checked head (now (routes .entry)) (now (places .entry)) (now (processes .entry)) (now (batch .entry)) start (emissionsOf count (now (reply .entry))) r ⌝ }
+    requires { ⌜ CheckStarted head (now places) (now processes) (now batch) start × CanLook (now edges) (now table) (now places) × (8 * count ≤ length (now reply)) ⌝ }
+    ensures { λ r. ⌜ Checked head (lookIn (now (edges .entry)) (now (table .entry)) (now (places .entry))) (now (places .entry)) (now (processes .entry)) (now (batch .entry)) start (emissionsOf count (now (reply .entry))) r ⌝ }
 {
     let mut a = start;
     let mut i: usize = 0;
     while i < count {
         let e = reply_words::emission_in(reply, 8 * i);
-        a = check(head, routes, places, processes, batch, a, e);
+        let lookahead = hand_back_edges::lookahead_of(edges, table, places, e);
+        a = check(head, lookahead, places, processes, batch, a, e);
         i += 1;
     }
     a

@@ -1,7 +1,7 @@
 -- What each return of the rows of one emission gives.
 use mathlib.Core.Path.{_≡_, refl, sym, ap, _∙_}
-use mathlib.Core.Bool.{Bool, true, false, not}
-use mathlib.Core.List.{List}
+use mathlib.Core.Bool.{Bool, true, false, not, _||_}
+use mathlib.Core.List.{List, [], _∷_}
 use Prim.Native.Nat.{ℕ, zero, suc, _+_, _-_, _*_, _^_, _≤_, _<_}
 use native.Mathlib.Omega.{arith}
 use lib.Dec.{leb, ltb, eqb}
@@ -14,12 +14,14 @@ use Rattle.types.specs.declared.Added.the-variants.{Sum, Overflow}
 use Rattle.types.specs.Value.{halves, ticksOf, durationOf, lpIdOf, IsSum}
 use Rattle.types.proofs.Halves.{Whole, halves-fit}
 use Rattle.words.specs.Words.{tab, tickAt, horizonsOf}
-use Rattle.rules.specs.Base.{if_then_else_}
+use Rattle.rules.specs.Base.{if_then_else_, any}
 use Rattle.rules.specs.Answers as A
-use Rattle.rules.specs.Pending.{route}
+use Rattle.rules.specs.State.{Edge}
+use Rattle.rules.specs.Pending.{joins, route, lookaheadAlong}
+use Rattle.rules.specs.Foreign.{withoutLookahead}
 use Rattle.rules.specs.HandBack.{minimum}
 use Rattle.records.specs.Records.{edgesOf}
-use Rattle.edges.specs.Routes.{Routes, HasRoute}
+use Rattle.rules.proofs.Tests.{or-left, or-right}
 use Rattle.reply_words.specs.declared.Emission.{Emission}
 use Rattle.reply_words.specs.Emissions.{emissionOf}
 use Rattle.state.specs.declared.Header.{Header}
@@ -87,46 +89,71 @@ positive : 0 < 2 ^ 128
 unfolding halves
 positive = halves-fit 0 0 (record { upper = omega arith; lower = omega arith })
 
+-- An edge leads from a to b where the lookahead there is above 0.
+edge-or-none : (es : List Edge) (a b : ℕ) → any withoutLookahead es ≡ false → any (joins a b) es ≡ not (eqb (lookaheadAlong es a b) 0)
+unfolding any lookaheadAlong if_then_else_
+edge-or-none [] a b h = refl
+edge-or-none (e ∷ es) a b h = go (joins a b e) (or-left (withoutLookahead e) (any withoutLookahead es) h) (edge-or-none es a b (or-right (withoutLookahead e) (any withoutLookahead es) h))
+  where
+    go : (t : Bool) → withoutLookahead e ≡ false → any (joins a b) es ≡ not (eqb (lookaheadAlong es a b) 0) → (t || any (joins a b) es) ≡ not (eqb (if t then e .lookahead else lookaheadAlong es a b) 0)
+    go true f ih = sym (ap not f)
+    go false f ih = ih
+
+-- Whether a route is there, by the lookahead l.
+module _ (e : Emission) (l : SimDuration) (x : Bool) (same : x ≡ eqb (lpIdOf (e .emitter)) (lpIdOf (e .destination))) where
+  abbrev routed : Bool
+  routed = eqb (lpIdOf (e .emitter)) (lpIdOf (e .destination)) || not (eqb (durationOf l) 0)
+
+  pub to-itself : x ≡ true → x ≡ routed
+  to-itself t = t ∙ rw (sym same ∙ t)
+
+  pub along-edge : x ≡ false → (z : Bool) → z ≡ eqb (durationOf l) 0 → not z ≡ routed
+  along-edge t z s = rw (sym same ∙ t) (ap not s)
+
 -- 28 to 33, each row with those before it passed.
-module _ (h : Header) (R Z : List ℕ) (e : Emission) (time : SimTime) (x : Bool) (sx : x ≡ eqb (lpIdOf (e .source)) (lpIdOf (e .emitter))) where
-  pub mismatch : x ≡ false → ChecksEmission h R Z e time (refusing (P.OutboundSourceMismatch (e .emitter) (e .source)))
+module _ (h : Header) (l : SimDuration) (Z : List ℕ) (e : Emission) (time : SimTime) (x : Bool) (sx : x ≡ eqb (lpIdOf (e .source)) (lpIdOf (e .emitter))) where
+  abbrev Rows : CheckResult → Type 0
+  Rows v = ChecksEmission h (durationOf l) Z e time v
+
+  pub mismatch : x ≡ false → Rows (refusing (P.OutboundSourceMismatch (e .emitter) (e .source)))
   unfolding ChecksEmission rowsOf
-  mismatch n E Q B w = struck _ _ _ (ap not (sym sx ∙ n)) (λ es. refl)
+  mismatch n E Q B f w = struck _ _ _ (ap not (sym sx ∙ n)) (λ es. refl)
 
   module _ (a : x ≡ true) (d : ℕ) (sd : d ≡ lpIdOf (e .destination)) where
     own : not (eqb (lpIdOf (e .source)) (lpIdOf (e .emitter))) ≡ false
     own = ap not (sym sx ∙ a)
 
-    pub unknown : h .n ≤ d → ChecksEmission h R Z e time (refusing (P.UnknownOutboundDestination (e .destination)))
+    pub unknown : h .n ≤ d → Rows (refusing (P.UnknownOutboundDestination (e .destination)))
     unfolding ChecksEmission rowsOf
-    unknown l E Q B w = go-by _ _ _ own (struck _ _ _ (le-leb (h .n) (lpIdOf (e .destination)) (rw sd at l)) (λ es. refl))
+    unknown m E Q B f w = go-by _ _ _ own (struck _ _ _ (le-leb (h .n) (lpIdOf (e .destination)) (rw sd at m)) (λ es. refl))
 
-    module _ (l : d < h .n) (p : ℕ) (sp : p ≡ lpIdOf (e .emitter)) (t : Bool) (et : HasRoute R p d t) where
+    module _ (m : d < h .n) (t : Bool) (et : t ≡ (eqb (lpIdOf (e .emitter)) (lpIdOf (e .destination)) || not (eqb (durationOf l) 0))) where
       below : lpIdOf (e .destination) < h .n
-      below = rw sd at l
+      below = rw sd at m
 
       known : leb (h .n) (lpIdOf (e .destination)) ≡ false
       known = lt-leb (h .n) (lpIdOf (e .destination)) below
 
-      -- 30 of any edges that the routes are of.
-      missing : (E : List ℕ) → Routes (edgesOf (h .edges) E) R → not (route (edgesOf (h .edges) E) (lpIdOf (e .emitter)) (lpIdOf (e .destination))) ≡ not t
-      unfolding HasRoute
-      missing E w = rw (← sp, ← sd) (ap not (sym (et _ w)))
+      -- 30 of any edges with these lookaheads.
+      missing : (E : List ℕ) → any withoutLookahead (edgesOf (h .edges) E) ≡ false → durationOf l ≡ lookaheadAlong (edgesOf (h .edges) E) (lpIdOf (e .emitter)) (lpIdOf (e .destination))
+          → not (route (edgesOf (h .edges) E) (lpIdOf (e .emitter)) (lpIdOf (e .destination))) ≡ not t
+      unfolding route
+      missing E f w = rw (edge-or-none (edgesOf (h .edges) E) (lpIdOf (e .emitter)) (lpIdOf (e .destination)) f, ← w) (ap not (sym et))
 
-      pub unrouted : t ≡ false → ChecksEmission h R Z e time (refusing (P.OutboundRouteMissing (e .emitter) (e .destination)))
+      pub unrouted : t ≡ false → Rows (refusing (P.OutboundRouteMissing (e .emitter) (e .destination)))
       unfolding ChecksEmission rowsOf
-      unrouted u E Q B w = go-by _ _ _ own (go-by _ _ _ known (struck _ _ _ (missing E w ∙ ap not u) (λ es. refl)))
+      unrouted u E Q B f w = go-by _ _ _ own (go-by _ _ _ known (struck _ _ _ (missing E f w ∙ ap not u) (λ es. refl)))
 
-      module _ (u : t ≡ true) (m : Added) (s : IsSum (least e time (h .lookahead)) m) where
-        pub overflow : m ≡ Overflow → ChecksEmission h R Z e time (refusing (P.LookaheadOverflow (e .emitter) time (h .lookahead)))
+      module _ (u : t ≡ true) (r : Added) (s : IsSum (least e time l) r) where
+        pub overflow : r ≡ Overflow → Rows (refusing (P.LookaheadOverflow (e .emitter) time l))
         unfolding ChecksEmission rowsOf
-        overflow o E Q B w =
-            let k : 2 ^ 128 ≤ least e time (h .lookahead) = rw o at s in
-            go-by _ _ _ own (go-by _ _ _ known (go-by _ _ _ (missing E w ∙ ap not u) (struck _ _ _ (over (2 ^ 128) _ positive k) (λ es. refl))))
+        overflow o E Q B f w =
+            let k : 2 ^ 128 ≤ least e time l = rw o at s in
+            rw (← w) (go-by _ _ _ own (go-by _ _ _ known (go-by _ _ _ (missing E f w ∙ ap not u) (struck _ _ _ (over (2 ^ 128) _ positive k) (λ es. refl)))))
 
-        pub timed : (t : SimTime) → m ≡ Sum t → (v : CheckResult) → ChecksRows (tickRows (emissionOf e) (ticksOf time) (ticksOf t) (tickAt Z (2 * lpIdOf (e .destination)))) v → ChecksEmission h R Z e time v
+        pub timed : (t : SimTime) → r ≡ Sum t → (v : CheckResult) → ChecksRows (tickRows (emissionOf e) (ticksOf time) (ticksOf t) (tickAt Z (2 * lpIdOf (e .destination)))) v → Rows v
         unfolding ChecksEmission rowsOf tickRows
-        timed t o v j E Q B w =
-            let k : (least e time (h .lookahead) < 2 ^ 128) × (ticksOf t ≡ least e time (h .lookahead)) = rw o at s in
+        timed t o v j E Q B f w =
+            let k : (least e time l < 2 ^ 128) × (ticksOf t ≡ least e time l) = rw o at s in
             let z : getD (horizonsOf (h .n) Z) (lpIdOf (e .destination)) 0 ≡ tickAt Z (2 * lpIdOf (e .destination)) = local-at Z (h .n) (lpIdOf (e .destination)) below in
-            go-by _ _ _ own (go-by _ _ _ known (go-by _ _ _ (missing E w ∙ ap not u) (go-by _ _ _ (fits (2 ^ 128) _ (k .0)) (rw (z, ← k .1) j))))
+            rw (← w) (go-by _ _ _ own (go-by _ _ _ known (go-by _ _ _ (missing E f w ∙ ap not u) (go-by _ _ _ (fits (2 ^ 128) _ (k .0)) (rw (z, ← k .1) j)))))

@@ -6,15 +6,16 @@ use Prim.Native.Nat.{ℕ, _≤_}
 use lib.Dec.{ltb}
 use lib.ListN.{length}
 use Rattle.types.specs.declared.SimTime.{SimTime}
-use Rattle.types.specs.Value.{ticksOf}
+use Rattle.types.specs.Value.{ticksOf, lpIdOf}
+use Rattle.rules.specs.Base.{any}
 use Rattle.rules.specs.State.{Event, State, Counters, poison}
 use Rattle.rules.specs.Answers as A
 use Rattle.rules.specs.Answers.{Refusal}
 use Rattle.rules.specs.Rows.{Row, _⇒_, unless, Out, out}
-use Rattle.rules.specs.Pending.{route}
+use Rattle.rules.specs.Pending.{route, lookaheadAlong}
+use Rattle.rules.specs.Foreign.{withoutLookahead}
 use Rattle.rules.specs.HandBack.{Emission, messageRows, stragglerRow, poisonWith}
 use Rattle.records.specs.Records.{edgesOf}
-use Rattle.edges.specs.Routes.{Routes}
 use Rattle.reply_words.specs.declared.Emission as W
 use Rattle.reply_words.specs.Emissions.{emissionOf}
 use Rattle.state.specs.declared.Header.{Header}
@@ -35,14 +36,14 @@ tickRows x t least local =
 
 -- 28 to 33 of the emission x, whose event has the tick t.
 unfoldable pub rowsOf : State → ℕ → Emission → List Row
-rowsOf s t x = messageRows (s .n) (route (s .edges)) (s .lookahead) (x .emitter) t (x .message) ++ (stragglerRow s (x .message) ∷ [])
+rowsOf s t x = messageRows (s .n) (route (s .edges)) (lookaheadAlong (s .edges) (x .emitter) (x .message .destination)) (x .emitter) t (x .message) ++ (stragglerRow s (x .message) ∷ [])
 
--- What 28 to 33 ask: the words of the routes and of the processes are there.
-pub record CanCheck (h : Header) (routes processes : List ℕ) : Type 0 where
+-- What 28 to 33 ask: the words of the processes are there.
+pub record CanCheck (h : Header) (processes : List ℕ) : Type 0 where
   pub few : h .n ≤ 64
-  pub route-words : length routes ≡ 64
   pub process-words : length processes ≡ 256
 
--- For any edges that the routes are of, whatever the pending words and those in hand are: 28 to 33 read neither.
-unfoldable pub ChecksEmission : Header → List ℕ → List ℕ → W.Emission → SimTime → CheckResult → Type 0
-ChecksEmission h R Z e time r = (E P B : List ℕ) → Routes (edgesOf (h .edges) E) R → ChecksRows (rowsOf (view h E P Z B) (ticksOf time) (emissionOf e)) r
+-- For any edges that have lookaheads above 0, and L from e's emitter to its destination, whatever the pending words and those in hand are: 28 to 33 read neither.
+unfoldable pub ChecksEmission : Header → ℕ → List ℕ → W.Emission → SimTime → CheckResult → Type 0
+ChecksEmission h L Z e time r = (E P B : List ℕ) → any withoutLookahead (edgesOf (h .edges) E) ≡ false → L ≡ lookaheadAlong (edgesOf (h .edges) E) (lpIdOf (e .emitter)) (lpIdOf (e .destination))
+    → ChecksRows (rowsOf (view h E P Z B) (ticksOf time) (emissionOf e)) r

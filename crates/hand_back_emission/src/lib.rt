@@ -6,7 +6,9 @@ use types::Added;
 use types::SimDuration;
 use types::SimTime;
 ghost use mathlib.Core.Path.{_≡_};
+ghost use mathlib.Core.Bool.{not, _||_};
 ghost use Prim.Native.Nat.{_*_, _<_};
+ghost use lib.Dec.{eqb};
 ghost use lib.ListN.{length};
 ghost use Rattle.types.specs.Value.{ticksOf, durationOf, lpIdOf, IsSum};
 ghost use Rattle.words.specs.Words.{tickAt};
@@ -20,7 +22,8 @@ pub struct CheckResult {
     pub answer: Answer,
 }
 
-// "The minimum tick is the event's tick for an emission to oneself, else that tick + L."
+// "The minimum tick is the event's tick for an emission to oneself, else that tick + L." A.4: L is that
+// of the edge.
 fn minimum_tick(e: Emission, time: SimTime, lookahead: SimDuration) -> Added
     ensures { λ r. ⌜ IsSum (minimum (durationOf lookahead) (lpIdOf (e .emitter)) (ticksOf time) (emissionOf e .message)) r ⌝ }
 {
@@ -58,17 +61,24 @@ fn check_tick(processes: &[u64], e: Emission, time: SimTime, least: SimTime) -> 
     }
 }
 
-// 28 to 33 of one emission, whose emitter's event has the tick `time`; `routes` is the table that
-// `edges` finds.
-pub fn check_emission<'a>(
+// "A route exists from a process to itself and along an edge": an edge's lookahead is above 0.
+fn has_route(e: Emission, lookahead: SimDuration) -> bool
+    ensures { λ r. ⌜ r ≡ (eqb (lpIdOf (e .emitter)) (lpIdOf (e .destination)) || not (eqb (durationOf lookahead) 0)) ⌝ }
+{
+    e.emitter.eq(e.destination) || !lookahead.is_zero()
+}
+
+// 28 to 33 of one emission, whose emitter's event has the tick `time`; `lookahead` is that of the edge
+// that it goes along, 0 where there is none.
+pub fn check_emission(
     head: Header,
-    routes: &'a [u64],
-    processes: &'a [u64],
+    lookahead: SimDuration,
+    processes: &[u64],
     e: Emission,
     time: SimTime,
 ) -> CheckResult
-    requires { ⌜ CanCheck head (now routes) (now processes) × (lpIdOf (e .emitter) < 64) ⌝ }
-    ensures { λ r. ⌜ ChecksEmission head (now (routes .entry)) (now (processes .entry)) e time r ⌝ }
+    requires { ⌜ CanCheck head (now processes) ⌝ }
+    ensures { λ r. ⌜ ChecksEmission head (durationOf lookahead) (now (processes .entry)) e time r ⌝ }
 {
     let emitter = e.emitter;
     let source = e.source;
@@ -80,20 +90,18 @@ pub fn check_emission<'a>(
     }
     let n = head.n as u64;
     let destination = e.destination;
-    let to = destination.to_word();
-    if n <= to {
+    if n <= destination.to_word() {
         return CheckResult {
             passed: false,
             answer: Answer::UnknownOutboundDestination(destination),
         };
     }
-    if !edges::has_route_in(routes, emitter.to_word(), to) {
+    if !has_route(e, lookahead) {
         return CheckResult {
             passed: false,
             answer: Answer::OutboundRouteMissing(emitter, destination),
         };
     }
-    let lookahead = head.lookahead;
     let least = minimum_tick(e, time, lookahead);
     match least {
         Added::Sum(t) => check_tick(processes, e, time, t),

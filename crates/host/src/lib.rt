@@ -17,6 +17,7 @@ ghost use Rattle.rules.specs.Calls.{AddInitial, Begin, Step, HandBack};
 ghost use Rattle.rules.specs.Reads.{readGvt, readCounters, readPending, readEarliest};
 ghost use Rattle.host_hand_back.specs.Passes.{replyOf};
 ghost use Rattle.state.specs.View.{messageOf};
+ghost use Rattle.build_topology.specs.Lookaheads.{lookaheadsFor};
 ghost use Rattle.runtime.specs.Builds.{Builds};
 ghost use Rattle.runtime.specs.Executes.{Executes};
 ghost use Rattle.reads.specs.Reads.{Reads};
@@ -41,11 +42,21 @@ pub fn build<'a>(
     sources: &'a [u32],
     counts: &'a [u64],
     destinations: &'a [u32],
+    lookaheads: &'a [u64],
     counters: &mut Counters,
 ) -> HostBuildResult
-    ensures { λ r. ⌜ Builds (setup n (durationOf lookahead) (now (ids .entry)) (now (sources .entry)) (now (counts .entry)) (now (destinations .entry))) (now (counters .entry)) (buildResultOf r (now (counters .exit))) ⌝ }
+    ensures { λ r. ⌜ Builds (setup n (durationOf lookahead) (now (ids .entry)) (now (sources .entry)) (now (counts .entry)) (now (destinations .entry)) (lookaheadsFor (now (destinations .entry)) (now (lookaheads .entry)))) (now (counters .entry)) (buildResultOf r (now (counters .exit))) ⌝ }
 {
-    let built = runtime::build(n, lookahead, ids, sources, counts, destinations, *counters);
+    let built = runtime::build(
+        n,
+        lookahead,
+        ids,
+        sources,
+        counts,
+        destinations,
+        lookaheads,
+        *counters,
+    );
     *counters = built.counters;
     HostBuildResult {
         answer: built.answer,

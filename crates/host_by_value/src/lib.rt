@@ -19,6 +19,7 @@ ghost use Rattle.rules.specs.Calls.{AddInitial, Begin, Step, HandBack};
 ghost use Rattle.rules.specs.Reads.{readGvt, readCounters, readPending, readEarliest};
 ghost use Rattle.host_hand_back.specs.Passes.{replyOf};
 ghost use Rattle.state.specs.View.{messageOf};
+ghost use Rattle.build_topology.specs.Lookaheads.{lookaheadsFor};
 ghost use Rattle.runtime.specs.Builds.{Builds};
 ghost use Rattle.runtime.specs.Executes.{Executes};
 ghost use Rattle.reads.specs.Reads.{Reads};
@@ -30,9 +31,10 @@ pub fn build<'a>(
     sources: &'a [u32],
     counts: &'a [u64],
     destinations: &'a [u32],
+    lookaheads: &'a [u64],
     counters: Counters,
 ) -> BuildResult
-    ensures { λ r. ⌜ Builds (setup n (durationOf lookahead) (now (ids .entry)) (now (sources .entry)) (now (counts .entry)) (now (destinations .entry))) counters r ⌝ }
+    ensures { λ r. ⌜ Builds (setup n (durationOf lookahead) (now (ids .entry)) (now (sources .entry)) (now (counts .entry)) (now (destinations .entry)) (lookaheadsFor (now (destinations .entry)) (now (lookaheads .entry)))) counters r ⌝ }
 {
     let mut counted = counters;
     let built = host::build(
@@ -42,6 +44,7 @@ pub fn build<'a>(
         sources,
         counts,
         destinations,
+        lookaheads,
         &mut counted,
     );
     BuildResult {

@@ -33,7 +33,7 @@ use Rattle.runtime.proofs.Executing.{carries-back}
 use Rattle.host_hand_back.specs.declared.Scan.{Scan}
 use Rattle.host_hand_back.specs.declared.Opened.{Opened}
 use Rattle.host_hand_back.specs.declared.Admission.{Admission}
-use Rattle.host_hand_back.specs.Passes.{replyOf, routesIn, placesIn, Scanned, Admitted, Queued}
+use Rattle.host_hand_back.specs.Passes.{replyOf, placesIn, lookOf, Scanned, Admitted, Queued}
 use Rattle.host_hand_back.specs.Parts.{Opens, AdmissionOf, givenBack, afterOf, CommitsTo, PoisonsTo, Closable, withPending, Closes}
 use Rattle.host_hand_back.proofs.Opening.{unmoved-back}
 
@@ -61,9 +61,9 @@ module _ (s : Runtime) (mask : ℕ) (o : Opened) (ys : List Emission) (a : Scan)
     checks-reply =
         let b = w .tabled g .begins in
         let d = w .tabled g .tables g in
-        let c : Checked (s .head) (routesIn (o .words)) (placesIn (o .words)) (s .processes) (s .batch) (o .scan .check) (replyOf ys) (a .check) = rw (w .same-head, d .processes-are, d .batch-is) at (t .checked) in
-        Review.checks-reply (s .head) (s .edges) (s .processes) (s .batch) mask (o .scan .check) (routesIn (o .words)) (placesIn (o .words))
-        (Review.ready (s .head) (s .edges) (s .pending) (s .processes) (s .batch) l) (l .process-words) (l .batch-words) (d .route-words) (d .routes) b (replyOf ys) (a .check) c
+        let c : Checked (s .head) (lookOf (o .words)) (placesIn (o .words)) (s .processes) (s .batch) (o .scan .check) (replyOf ys) (a .check) = rw (w .same-head, d .processes-are, d .batch-is) at (t .checked) in
+        Review.checks-reply (s .head) (s .edges) (s .processes) (s .batch) mask (o .scan .check) (placesIn (o .words))
+        (Review.ready (s .head) (s .edges) (s .pending) (s .processes) (s .batch) l) (l .process-words) (l .batch-words) b (lookOf (o .words)) (d .looks) (replyOf ys) (a .check) c
 
   -- It stopped.
   pub given-back : (c : Counters) → a .check .going ≡ false → Executes (HandBack mask (replyOf ys)) s c (a .check .outcome .answer) s c

@@ -1,14 +1,17 @@
 -- What each return of the parts before the first pass gives.
-use mathlib.Core.Path.{_≡_, refl}
+use mathlib.Core.Path.{_≡_, refl, ap, _∙_}
 use mathlib.Core.Bool.{Bool, true, false}
 use mathlib.Core.List.{List}
 use Prim.Native.Nat.{ℕ}
-use lib.ListN.{length}
+use native.Mathlib.Omega.{arith}
+use lib.ListN.{length, getD, take, length-replicate}
 use Rattle.rules.specs.HandBack as Rule
 use Rattle.rules.specs.Calls.{HandBack}
 use Rattle.rules.proofs.Tests.{not-both}
+use Rattle.words.specs.Words.{zeroes}
 use Rattle.records.specs.Records.{edgesOf}
-use Rattle.edges.specs.Routes.{Routes}
+use Rattle.hand_back_edges.specs.Lookaheads.{CanFindLookaheads, FoundLookaheads}
+use Rattle.hand_back_edges.proofs.PlaceRows.{noughts}
 use Rattle.hand_back_check.specs.declared.ReplyCheck.{ReplyCheck}
 use Rattle.hand_back_check.specs.Checks.{refusedWith}
 use Rattle.hand_back_commit.specs.HandsBack.{HandsBack}
@@ -23,9 +26,21 @@ use Rattle.foreign.specs.Tests.{IsForeign}
 use Rattle.foreign.proofs.Grouped.{foreign-is}
 use Rattle.runtime.specs.Executes.{Executes}
 use Rattle.runtime.proofs.Executing.{carries-foreign, carries-back}
-use Rattle.host_hand_back.specs.Passes.{tablesOf, Sizes, routesIn, placesIn, Begun}
+use Rattle.host_hand_back.specs.Passes.{tablesOf, Sizes, placesIn, Begun}
 use Rattle.host_hand_back.specs.Parts.{runtimeOf, openedOf, Tabled, Opens}
-use Rattle.host_hand_back.proofs.Filling.{routes-there, places-there, processes-there, batch-there}
+use Rattle.host_hand_back.proofs.Filling.{sizes, lookaheads-there, looks-front, places-there, processes-there, batch-there}
+
+-- What the table of lookaheads is made of.
+pub cleared-length : (w : List ℕ) → w ≡ zeroes 9024 → length w ≡ 9024
+cleared-length w e = ap length e ∙ length-replicate {A = ℕ} 9024 0
+
+pub can-find : (h : Header) (E B : List ℕ) → Ready h E B → (w : List ℕ) → w ≡ zeroes 9024 → CanFindLookaheads E (h .edges) w
+can-find h E B y w e = record {
+  edge-words = y .edge-words;
+  known = y .wired;
+  table-words = omega (arith, cleared-length w e);
+  empty = λ j. ap (λ (x : List ℕ). getD x j 0) e ∙ noughts 9024 j;
+}
 
 -- A check that stops where it starts, whatever the words are; and the words for the first pass.
 module _ (h : Header) (E Z B : List ℕ) (mask : ℕ) (a : ReplyCheck) (T : List ℕ) (b : Begins h B mask a T) where
@@ -35,16 +50,22 @@ module _ (h : Header) (E Z B : List ℕ) (mask : ℕ) (a : ReplyCheck) (T : List
     tables = λ g. not-both g n;
   }
 
-  pub tabled : (R D : List ℕ) → Sizes R T Z B → D ≡ tablesOf R T Z B → Routes (edgesOf (h .edges) E) R → Tabled h E Z B mask a D
-  tabled R D s e r = rw e (record {
-    begins = rw (places-there R T Z B s) b;
-    tables = λ _. record {
-      routes = rw (routes-there R T Z B s) r;
-      route-words = rw (routes-there R T Z B s) (s .route-words);
-      processes-are = processes-there R T Z B s;
-      batch-is = batch-there R T Z B s;
-    };
-  })
+  module _ (g : a .going ≡ true) (w : List ℕ) (n : length w ≡ 9024) (z : length Z ≡ 256) (m : length B ≡ 512) where
+    abbrev R : List ℕ
+    R = take 8192 w
+
+    k : Sizes R T Z B
+    k = sizes w T Z B n (b .started g .place-words) z m
+
+    pub tabled : (D : List ℕ) → D ≡ tablesOf R T Z B → FoundLookaheads (edgesOf (h .edges) E) w → Tabled h E Z B mask a D
+    tabled D e r = rw e (record {
+      begins = rw (places-there R T Z B k) b;
+      tables = λ _. record {
+        looks = rw (places-there R T Z B k, lookaheads-there R T Z B k) (looks-front (edgesOf (h .edges) E) T w (b .started g .place-words) r);
+        processes-are = processes-there R T Z B k;
+        batch-is = batch-there R T Z B k;
+      };
+    })
 
 -- The refusals that leave the state as given, from the core's promise.
 pub unmoved-back : (s : Runtime) (c : Counters) (mask : ℕ) (xs : List Rule.Emission) (a : ReplyCheck) → HandsBack (s .head) c (s .edges) (s .pending) (s .processes) (s .batch) mask xs (asGivenTo (s .head) c a) (s .pending) (s .processes) (s .batch)
@@ -64,7 +85,7 @@ module _ (h : Header) (E Q Z B : List ℕ) (mask : ℕ) (x : Bool) (i : IsForeig
     tabled = λ g. not-both g refl;
   })
 
-  module _ (f : x ≡ false) (e : length E ≡ 2048) (q : length Q ≡ 4096) (z : length Z ≡ 256) (b : length B ≡ 512) where
+  module _ (f : x ≡ false) (e : length E ≡ 3072) (q : length Q ≡ 4096) (z : length Z ≡ 256) (b : length B ≡ 512) where
     lent : ValidArrays h E Q Z B
     lent = record { edge-words = e; pending-words = q; process-words = z; batch-words = b; passes = foreign-is s x false i f }
 
@@ -74,7 +95,7 @@ module _ (h : Header) (E Q Z B : List ℕ) (mask : ℕ) (x : Bool) (i : IsForeig
     pub opens-tabled : (a : ReplyCheck) (D : List ℕ) → Tabled h E Z B mask a D → Opens s mask (openedOf h a D)
     opens-tabled a D t =
         let y : a .going ≡ true → Begun D (openedOf h a D .scan) =
-        λ g. let d = t .tables g in rw (d .processes-are, d .batch-is) (Review.begun h E Z B mask a (routesIn D) (placesIn D) ready z b (d .route-words) (d .routes) (t .begins)) in
+        λ g. let d = t .tables g in rw (d .processes-are, d .batch-is) (Review.begun h E Z B mask a (placesIn D) ready z b (t .begins)) in
         record {
           same-head = refl;
           begun = record { started = λ g. y g .started g; checkable = λ g. y g .checkable g };

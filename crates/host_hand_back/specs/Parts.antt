@@ -7,7 +7,7 @@ use lib.ListN.{length}
 use Rattle.rules.specs.HandBack as Rule
 use Rattle.rules.specs.Calls.{HandBack}
 use Rattle.records.specs.Records.{edgesOf}
-use Rattle.edges.specs.Routes.{Routes}
+use Rattle.hand_back_edges.specs.Looks.{Looks}
 use Rattle.reply_words.specs.declared.Emission.{Emission}
 use Rattle.hand_back_check.specs.declared.ReplyCheck.{ReplyCheck}
 use Rattle.hand_back_end.specs.EndsRound.{Poisons}
@@ -24,7 +24,7 @@ use Rattle.runtime.specs.Executes.{Executes}
 use Rattle.host_hand_back.specs.declared.Scan.{Scan}
 use Rattle.host_hand_back.specs.declared.Opened.{Opened}
 use Rattle.host_hand_back.specs.declared.Admission.{Admission}
-use Rattle.host_hand_back.specs.Passes.{replyOf, routesIn, placesIn, processesIn, batchIn, Begun, Scanned, Queued}
+use Rattle.host_hand_back.specs.Passes.{replyOf, placesIn, processesIn, batchIn, lookOf, Begun, Scanned, Queued}
 
 -- A runtime by its parts, and where the first pass of a reply to it starts.
 abbrev pub runtimeOf : Header → List ℕ → List ℕ → List ℕ → List ℕ → Runtime
@@ -33,10 +33,9 @@ runtimeOf h E Q Z B = record { edges = E; pending = Q; processes = Z; batch = B;
 abbrev pub openedOf : Header → ReplyCheck → List ℕ → Opened
 openedOf h a D = record { words = D; scan = record { head = h; check = a } }
 
--- The words D have the routes, the table of the processes and the batch.
+-- The words D have the lookaheads, the table of the processes and the batch.
 pub record Tables (h : Header) (edges processes batch D : List ℕ) : Type 0 where
-  pub routes : Routes (edgesOf (h .edges) edges) (routesIn D)
-  pub route-words : length (routesIn D) ≡ 64
+  pub looks : Looks (edgesOf (h .edges) edges) (placesIn D) (lookOf D)
   pub processes-are : processesIn D ≡ processes
   pub batch-is : batchIn D ≡ batch
 

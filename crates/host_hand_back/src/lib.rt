@@ -14,10 +14,11 @@ use state::Runtime;
 use types::MAX_PROCESSES;
 ghost use mathlib.Core.Path.{_≡_};
 ghost use Prim.Native.Nat.{_+_, _*_, _≤_};
-ghost use lib.ListN.{length};
+ghost use lib.ListN.{length, take};
+ghost use Rattle.words.specs.Words.{zeroes};
 ghost use Rattle.hand_back_commit.specs.Commits.{CanEnd};
 ghost use Rattle.hand_back.specs.ReplyChecks.{Ready};
-ghost use Rattle.host_hand_back.specs.Passes.{tablesOf, Copied, Sizes, Checkable, ChecksNext, Enqueueable, EnqueuesNext};
+ghost use Rattle.host_hand_back.specs.Passes.{tablesOf, Copied, Checkable, ChecksNext, Enqueueable, EnqueuesNext};
 ghost use Rattle.host_hand_back.specs.Parts.{runtimeOf, openedOf, Tabled, Opens, AdmissionOf, givenBack, CommitsTo, PoisonsTo, Closable, Closes};
 
 // How far the first pass is, with the header of the state that the reply is for.
@@ -26,10 +27,11 @@ pub struct Scan {
     pub check: ReplyCheck,
 }
 
-// What the first pass reads, and where it starts: the routes from word 0 on, the place of each process's
-// event from 64, the table of the processes from 128 and the events in hand from 384.
+// What the first pass reads, and where it starts: the lookaheads of all pairs of processes from word 0
+// on, the place of each process's event from 8,192, the table of the processes from 8,256 and the events
+// in hand from 8,512.
 pub struct Opened {
-    pub words: [u64; 896],
+    pub words: [u64; 9024],
     pub scan: Scan,
 }
 
@@ -52,20 +54,13 @@ fn copy_at(w: &mut [u64], at: usize, from: &[u64])
     }
 }
 
-fn fill<'a>(
-    words: &mut [u64],
-    routes: &'a [u64],
-    places: &'a [u64],
-    processes: &'a [u64],
-    batch: &'a [u64],
-)
-    requires { ⌜ (length (now words) ≡ 896) × Sizes (now routes) (now places) (now processes) (now batch) ⌝ }
-    ensures { λ _. ⌜ now (words .exit) ≡ tablesOf (now (routes .entry)) (now (places .entry)) (now (processes .entry)) (now (batch .entry)) ⌝ }
+fn fill<'a>(words: &mut [u64], places: &'a [u64], processes: &'a [u64], batch: &'a [u64])
+    requires { ⌜ (length (now words) ≡ 9024) × (length (now places) ≡ 64) × (length (now processes) ≡ 256) × (length (now batch) ≡ 512) ⌝ }
+    ensures { λ _. ⌜ now (words .exit) ≡ tablesOf (take 8192 (now (words .entry))) (now (places .entry)) (now (processes .entry)) (now (batch .entry)) ⌝ }
 {
-    copy_at(words, 0, routes);
-    copy_at(words, 64, places);
-    copy_at(words, 128, processes);
-    copy_at(words, 384, batch);
+    copy_at(words, 8192, places);
+    copy_at(words, 8256, processes);
+    copy_at(words, 8512, batch);
 }
 
 // 12, 25 and 26 of the mask; and the words that the first pass reads, where none of them refuses.
@@ -77,7 +72,7 @@ fn make_tables<'a>(
     mask: u64,
     words: &mut [u64],
 ) -> ReplyCheck
-    requires { ⌜ Ready head (now edges) (now batch) × (length (now processes) ≡ 256) × (length (now batch) ≡ 512) × (length (now words) ≡ 896) ⌝ }
+    requires { ⌜ Ready head (now edges) (now batch) × (length (now processes) ≡ 256) × (length (now batch) ≡ 512) × (now words ≡ zeroes 9024) ⌝ }
     ensures { λ r. ⌜ Tabled head (now (edges .entry)) (now (processes .entry)) (now (batch .entry)) mask r (now (words .exit)) ⌝ }
 {
     let mut places = [0u64; 64];
@@ -85,9 +80,8 @@ fn make_tables<'a>(
     if !start.going {
         return start;
     }
-    let mut routes = [0u64; 64];
-    edges::find_routes(edges, head.edges, &mut routes);
-    fill(words, &routes, &places, processes, batch);
+    hand_back_edges::find_lookaheads(edges, head.edges, words);
+    fill(words, &places, processes, batch);
     start
 }
 
@@ -101,7 +95,7 @@ fn begin<'a>(
     mask: u64,
     words: &mut [u64],
 ) -> ReplyCheck
-    requires { ⌜ (length (now edges) ≡ 2048) × (length (now pending) ≡ 4096) × (length (now processes) ≡ 256) × (length (now batch) ≡ 512) × (length (now words) ≡ 896) ⌝ }
+    requires { ⌜ (length (now edges) ≡ 3072) × (length (now pending) ≡ 4096) × (length (now processes) ≡ 256) × (length (now batch) ≡ 512) × (now words ≡ zeroes 9024) ⌝ }
     ensures { λ r. ⌜ Opens (runtimeOf head (now (edges .entry)) (now (pending .entry)) (now (processes .entry)) (now (batch .entry))) mask (openedOf head r (now (words .exit))) ⌝ }
 {
     if is_foreign(head, edges, pending, processes, batch) {
@@ -115,7 +109,7 @@ pub fn open(state: Runtime, mask: u64) -> Opened
     ensures { λ r. ⌜ Opens state mask r ⌝ }
 {
     let head = state.head;
-    let mut words = [0u64; 896];
+    let mut words = [0u64; 9024];
     let check = begin(
         head,
         &state.edges,
@@ -136,23 +130,24 @@ pub fn open(state: Runtime, mask: u64) -> Opened
 
 // One emission of the first pass.
 fn check_in(words: &[u64], a: Scan, e: Emission) -> Scan
-    requires { ⌜ (length (now words) ≡ 896) × Checkable (now words) a ⌝ }
+    requires { ⌜ (length (now words) ≡ 9024) × Checkable (now words) a ⌝ }
     ensures { λ r. ⌜ ChecksNext (now (words .entry)) a e r ⌝ }
 {
-    let routes = &words[0..64];
-    let places = &words[64..128];
-    let processes = &words[128..384];
-    let batch = &words[384..896];
+    let lookaheads = &words[0..8192];
+    let places = &words[8192..8256];
+    let processes = &words[8256..8512];
+    let batch = &words[8512..9024];
     let head = a.head;
     let so_far = a.check;
-    let check = hand_back_check::check(head, routes, places, processes, batch, so_far, e);
+    let lookahead = hand_back_edges::lookahead_in(lookaheads, e);
+    let check = hand_back_check::check(head, lookahead, places, processes, batch, so_far, e);
     Scan {
         head: head,
         check: check,
     }
 }
 
-pub fn check_next(words: &[u64; 896], a: Scan, e: Emission) -> Scan
+pub fn check_next(words: &[u64; 9024], a: Scan, e: Emission) -> Scan
     requires { ⌜ Checkable (now words) a ⌝ }
     ensures { λ r. ⌜ ChecksNext (now (words .entry)) a e r ⌝ }
 {

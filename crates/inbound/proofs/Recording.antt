@@ -21,10 +21,10 @@ use Rattle.rules.proofs.Tests.{by-test}
 use Rattle.inbound.specs.Inbound.{frontierIn, LowersInbound, RecordsInbound, Destinations}
 
 -- The tick of process d falls to b.
-pub lowered : (edges w u : List ℕ) (i : ℕ) (b : SimTime) → ticksOf b ≡ tickAt edges (4 * i + 2) → getD edges (4 * i + 1) 0 < 64 → length w ≡ 256 → LowersTick w (2 * (64 + getD edges (4 * i + 1) 0)) b u → LowersInbound (edgeAt edges i) w u
+pub lowered : (edges w u : List ℕ) (i : ℕ) (b : SimTime) → ticksOf b ≡ tickAt edges (6 * i + 4) → getD edges (6 * i + 1) 0 < 64 → length w ≡ 256 → LowersTick w (2 * (64 + getD edges (6 * i + 1) 0)) b u → LowersInbound (edgeAt edges i) w u
 unfolding edgeAt
 lowered edges w u i b e h l s =
-    let d = 64 + getD edges (4 * i + 1) 0 in
+    let d = 64 + getD edges (6 * i + 1) 0 in
     ⊎-elim
     (λ (y : ticksOf b < tickOf w d). rw (s .falls y) (record { here = table-same w d b (omega arith) ∙ rw (← e) (omega arith); others = λ k ne. table-other w d k b ne }))
     (λ (n : tickOf w d ≤ ticksOf b). rw (s .unchanged n) (record { here = rw (← e) (omega arith); others = λ k ne. refl }))
@@ -81,7 +81,7 @@ module _ (edges : List ℕ) (m n : ℕ) (w₀ : List ℕ) where
       let all : RecordsInbound n (edgesOf m edges) w₀ w = rw (tab-whole (edgeAt edges) i m z) at (r .records) in
       record { inbound = all .inbound; horizons = λ p h. all .horizons p h ∙ q .horizons p h }
 
-  pub destination-at : (i : ℕ) (w : List ℕ) → 0 < i → Recording i w → Destinations 64 m edges → getD edges (4 * (i - 1) + 1) 0 < 64
+  pub destination-at : (i : ℕ) (w : List ℕ) → 0 < i → Recording i w → Destinations 64 m edges → getD edges (6 * (i - 1) + 1) 0 < 64
   unfolding Destinations edgeAt
   destination-at i w h r d = d (i - 1) (omega (arith, r .within))
 

@@ -36,17 +36,17 @@ pub fn reset(processes: &mut [u64], n: usize)
 
 // Edge i goes on record: the tick of its destination falls to its bound, if that is lower.
 pub fn lower(edges: &[u64], i: usize, processes: &mut [u64])
-    requires { ⌜ (4 * i + 4 ≤ length (now edges)) × (length (now processes) ≡ 256) × (getD (now edges) (4 * i + 1) 0 < 64) ⌝ }
+    requires { ⌜ (6 * i + 6 ≤ length (now edges)) × (length (now processes) ≡ 256) × (getD (now edges) (6 * i + 1) 0 < 64) ⌝ }
     ensures { λ _. ⌜ LowersInbound (edgeAt (now (edges .entry)) i) (now (processes .entry)) (now (processes .exit)) ⌝ }
 {
-    let to = edges[4 * i + 1] as usize;
-    let bound = words::tick_in(edges, 4 * i + 2);
+    let to = edges[6 * i + 1] as usize;
+    let bound = words::tick_in(edges, 6 * i + 4);
     words::lower_tick(processes, 2 * (64 + to), bound);
 }
 
 // The record of n processes, made of all edges.
 pub fn record_inbound(edges: &[u64], count: usize, n: usize, processes: &mut [u64])
-    requires { ⌜ (4 * count ≤ length (now edges)) × (n ≤ 64) × (length (now processes) ≡ 256) × Destinations 64 count (now edges) ⌝ }
+    requires { ⌜ (6 * count ≤ length (now edges)) × (n ≤ 64) × (length (now processes) ≡ 256) × Destinations 64 count (now edges) ⌝ }
     ensures { λ _. ⌜ RecordsInbound n (edgesOf count (now (edges .entry))) (now (processes .entry)) (now (processes .exit)) ⌝ }
 {
     reset(processes, n);

@@ -73,7 +73,7 @@ module _ (s : List ℕ) (p : Plan) (e : decode s ≡ contents p) where
 -- What the fields can hold.
 edge-widths : (x : PlanEdge) → edge .In x → EdgeWidths x
 unfolding edge seen pair field
-edge-widths x h = record { source = h .0; destination = h .1 }
+edge-widths x h = record { source = h .0; destination = h .1 .0; lookahead = h .1 .1 }
 
 pub message-widths : (m : Message) → message .In m → MessageWidths m
 unfolding message seen pair counted field

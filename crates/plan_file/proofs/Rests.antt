@@ -27,12 +27,14 @@ rest-reply b =
     ∙ rest-fixed (field 6) (counted 10 message) 6 (fixed-field 6) b
     ∙ onward-same (skipped 6 b) _ _ (rest-counted 10 message)
 
-fixed-edge : Fixed 12 edge
+fixed-edge : Fixed 140 edge
 unfolding edge
-fixed-edge b = rest-seen _ _ _ _ _ b ∙ fixed-pair (field 6) (field 6) 6 6 (fixed-field 6) (fixed-field 6) b
+fixed-edge b =
+    rest-seen _ _ _ _ _ b
+    ∙ fixed-pair (field 6) (pair (field 6) (field 128)) 6 134 (fixed-field 6) (fixed-pair (field 6) (field 128) 6 128 (fixed-field 6) (fixed-field 128)) b
 
-pub rest-edges : (n : ℕ) (b : List Bool) → rest (gets edge n b) ≡ skipped (n * 12) b
-rest-edges n b = fixed-gets edge 12 fixed-edge n b
+pub rest-edges : (n : ℕ) (b : List Bool) → rest (gets edge n b) ≡ skipped (n * 140) b
+rest-edges n b = fixed-gets edge 140 fixed-edge n b
 
 -- What stands behind the 327 bits of the header.
 abbrev pub restLists : List Bool → Got (Unit {0})

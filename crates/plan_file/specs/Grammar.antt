@@ -1,14 +1,15 @@
--- The plan file's grammar, one expression a record: document 02, A.1.
+-- The plan file's grammar, one expression a record: document 02, A.1, as A.4 amends it.
 use mathlib.Core.Path.{refl}
 use Rattle.rules.specs.State.{Message}
 use Rattle.plan_file.specs.Format.{Format, field, pair, counted, seen}
 use Rattle.plan_file.specs.Plan.{PlanEdge, Reply, Plan}
 
--- "each edge source 6 and destination 6"
+-- "each edge source 6 and destination 6"; A.4: "The file's edges gain 128 bits, behind the destination".
 unfoldable pub edge : Format PlanEdge
 edge =
-    seen (pair (field 6) (field 6))
-    (λ p. record { source = p .0; destination = p .1 }) (λ e. (e .source, e .destination)) (λ e. refl) (λ p. refl)
+    seen (pair (field 6) (pair (field 6) (field 128)))
+    (λ p. record { source = p .0; destination = p .1 .0; lookahead = p .1 .1 })
+    (λ e. (e .source, (e .destination, e .lookahead))) (λ e. refl) (λ p. refl)
 
 -- "each event source 6, destination 6, tick 128, payload length 5, then its bytes"
 unfoldable pub message : Format Message

@@ -8,6 +8,7 @@ use Rattle.plan_file.specs.Plan.{PlanEdge, Reply, Plan}
 pub record EdgeWidths (e : PlanEdge) : Type 0 where
   pub source : e .source < 64
   pub destination : e .destination < 64
+  pub lookahead : e .lookahead < 2 ^ 128
 
 pub record MessageWidths (m : Message) : Type 0 where
   pub source : m .source < 64

@@ -110,7 +110,7 @@ pub fn skip_replies(s: &[u8], at: usize, n: usize) -> Place
     Place::At(p)
 }
 
-// The list of edges, of 12 bits each, with its count in front.
+// The list of edges, of 140 bits each, with its count in front.
 pub fn edge_list(s: &[u8], at: usize) -> Counted
     requires { ⌜ (length (now s) ≤ 16384) × (at ≤ length (now s) * 8) ⌝ }
     ensures { λ r. ⌜ Counts edge (stream (now (s .entry))) at r ⌝ }
@@ -119,7 +119,7 @@ pub fn edge_list(s: &[u8], at: usize) -> Counted
         return Counted::Cut;
     }
     let n = bits::read(s, at, 10) as usize;
-    let Place::At(next) = skip(s, at + 10, n * 12) else {
+    let Place::At(next) = skip(s, at + 10, n * 140) else {
         return Counted::Cut;
     };
     Counted::Listed(n, at + 10, next)

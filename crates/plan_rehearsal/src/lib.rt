@@ -64,12 +64,13 @@ fn rehearse_accepted<'a>(
     sources: &'a [u32],
     counts: &'a [u64],
     destinations: &'a [u32],
+    lookaheads: &'a [u64],
     listing: &mut [u8],
 ) -> u64
-    requires { ⌜ CanRun (now file) parts header (now sources) (now counts) (now destinations) ⌝ }
+    requires { ⌜ CanRun (now file) parts header (now sources) (now counts) (now destinations) (now lookaheads) ⌝ }
     ensures { λ r. ⌜ Rehearses (now (file .entry)) (now (listing .entry)) (now (listing .exit)) r ⌝ }
 {
-    let mut edges = [0u64; 2048];
+    let mut edges = [0u64; 3072];
     let mut processes = [0u64; 256];
     let lookahead = header.lookahead;
     let built = build::initialize(
@@ -78,6 +79,7 @@ fn rehearse_accepted<'a>(
         sources,
         counts,
         destinations,
+        lookaheads,
         &mut edges,
         &mut processes,
     );
@@ -99,7 +101,7 @@ fn rehearse_accepted<'a>(
     number_for(fits)
 }
 
-// Build, then 39.
+// Build, then 39: "read the least edge lookahead, or the plan's if there is no edge".
 fn rehearse_setup<'a>(
     file: &'a [u8],
     parts: Parts,
@@ -108,23 +110,42 @@ fn rehearse_setup<'a>(
     sources: &'a [u32],
     counts: &'a [u64],
     destinations: &'a [u32],
+    lookaheads: &'a [u64],
     listing: &mut [u8],
 ) -> u64
-    requires { ⌜ IsSetup (now file) parts header (now ids) (now sources) (now counts) (now destinations) ⌝ }
+    requires { ⌜ IsSetup (now file) parts header (now ids) (now sources) (now counts) (now destinations) (now lookaheads) ⌝ }
     ensures { λ r. ⌜ Rehearses (now (file .entry)) (now (listing .entry)) (now (listing .exit)) r ⌝ }
 {
     let lookahead = header.lookahead;
-    let answer = build::check(header.n, lookahead, ids, sources, counts, destinations);
+    let answer = build::check(
+        header.n,
+        lookahead,
+        ids,
+        sources,
+        counts,
+        destinations,
+        lookaheads,
+    );
     let number = answer_values::build_number(answer);
     if 0 < number {
         return refuse(number, listing);
     }
+    let least = plan_limit::least_lookahead(lookaheads, destinations.len(), lookahead);
     let horizon = header.horizon;
-    if plan_limit::too_long(horizon, lookahead) {
+    if plan_limit::too_long(horizon, least) {
         plan_text::clear(listing, 0);
         return 39;
     }
-    rehearse_accepted(file, parts, header, sources, counts, destinations, listing)
+    rehearse_accepted(
+        file,
+        parts,
+        header,
+        sources,
+        counts,
+        destinations,
+        lookaheads,
+        listing,
+    )
 }
 
 // The rows that build gets: every process has one, and so has any other source of an edge.
@@ -134,9 +155,10 @@ fn rehearse_rows<'a>(
     header: PlanHeader,
     from: &'a [u32],
     destinations: &'a [u32],
+    lookaheads: &'a [u64],
     listing: &mut [u8],
 ) -> u64
-    requires { ⌜ CanMakeRows (now file) parts header (now from) (now destinations) ⌝ }
+    requires { ⌜ CanMakeRows (now file) parts header (now from) (now destinations) (now lookaheads) ⌝ }
     ensures { λ r. ⌜ Rehearses (now (file .entry)) (now (listing .entry)) (now (listing .exit)) r ⌝ }
 {
     let n = header.n as usize;
@@ -153,6 +175,7 @@ fn rehearse_rows<'a>(
         &sources[..rows],
         &counts[..rows],
         destinations,
+        lookaheads,
         listing,
     )
 }
@@ -175,12 +198,16 @@ pub fn rehearse(file: &[u8], parts: Parts, listing: &mut [u8]) -> u64
     if !plan_rows::never_fall(&from[..count]) {
         return refuse(5, listing);
     }
+    let mut lookaheads = [0u64; 1024];
+    plan_rows::read_lookaheads(file, count, &mut lookaheads);
+    let words = 2 * count;
     rehearse_rows(
         file,
         parts,
         header,
         &from[..count],
         &destinations[..count],
+        &lookaheads[..words],
         listing,
     )
 }

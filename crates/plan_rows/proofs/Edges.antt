@@ -1,4 +1,4 @@
--- The edges of a file, 12 bits each.
+-- The edges of a file, 140 bits each.
 use mathlib.Core.Path.{_≡_, refl, sym, ap, _∙_}
 use mathlib.Core.Bool.{Bool}
 use mathlib.Core.List.{List, [], _∷_, _++_, map}
@@ -20,33 +20,34 @@ use Rattle.plan_rows.specs.Rows.{ReadsEdges}
 use Rattle.plan_rows.proofs.Filling.{one-behind}
 
 -- The edge that bits begin with, and the first n.
-pub edgeOf : List Bool → PlanEdge
-edgeOf b = record { source = valueOf (take 6 b); destination = valueOf (take 6 (drop 6 b)) }
+unfoldable pub edgeOf : List Bool → PlanEdge
+edgeOf b = record { source = valueOf (take 6 b); destination = valueOf (take 6 (drop 6 b)); lookahead = valueOf (take 128 (drop 12 b)) }
 
 unfoldable pub edgesFrom : ℕ → List Bool → List PlanEdge
 edgesFrom zero b = []
-edgesFrom (suc n) b = edgeOf b ∷ edgesFrom n (drop 12 b)
+edgesFrom (suc n) b = edgeOf b ∷ edgesFrom n (drop 140 b)
 
-edge-there : (b : List Bool) → 12 ≤ length b → edge .get b ≡ got (edgeOf b) (drop 12 b)
+edge-there : (b : List Bool) → 140 ≤ length b → edge .get b ≡ got (edgeOf b) (drop 140 b)
 unfolding edge seen pair field getField next edgeOf
 edge-there b h =
     let l : 6 ≤ length (drop 6 b) = simp length-drop (omega arith) in
-    rw (le-leb 6 (length b) (omega arith), le-leb 6 (length (drop 6 b)) l, drop-drop 6 6 b)
+    let m : 128 ≤ length (drop 12 b) = simp length-drop (omega arith) in
+    rw (le-leb 6 (length b) (omega arith), le-leb 6 (length (drop 6 b)) l, drop-drop 6 6 b, le-leb 128 (length (drop 12 b)) m, drop-drop 128 12 b)
 
-edges-there : (n : ℕ) (b : List Bool) → n * 12 ≤ length b → gets edge n b ≡ got (edgesFrom n b) (drop (n * 12) b)
+edges-there : (n : ℕ) (b : List Bool) → n * 140 ≤ length b → gets edge n b ≡ got (edgesFrom n b) (drop (n * 140) b)
 unfolding gets edgesFrom next
 edges-there zero b h = refl
 edges-there (suc n) b h =
-    let l : n * 12 ≤ length (drop 12 b) = simp length-drop (omega arith) in
-    let e : 12 + n * 12 ≡ suc n * 12 = omega arith in
-    rw (edge-there b (omega arith), edges-there n (drop 12 b) l, drop-drop (n * 12) 12 b, e)
+    let l : n * 140 ≤ length (drop 140 b) = simp length-drop (omega arith) in
+    let e : 140 + n * 140 ≡ suc n * 140 = omega arith in
+    rw (edge-there b (omega arith), edges-there n (drop 140 b) l, drop-drop (n * 140) 140 b, e)
 
-edges-more : (n : ℕ) (b : List Bool) → edgesFrom (suc n) b ≡ edgesFrom n b ++ (edgeOf (drop (12 * n) b) ∷ [])
+pub edges-more : (n : ℕ) (b : List Bool) → edgesFrom (suc n) b ≡ edgesFrom n b ++ (edgeOf (drop (140 * n) b) ∷ [])
 unfolding edgesFrom
 edges-more zero b = refl
 edges-more (suc n) b =
-    let e : 12 + 12 * n ≡ 12 * suc n = omega arith in
-    ap (λ (l : List PlanEdge). edgeOf b ∷ l) (edges-more n (drop 12 b) ∙ rw (drop-drop (12 * n) 12 b, e))
+    let e : 140 + 140 * n ≡ 140 * suc n = omega arith in
+    ap (λ (l : List PlanEdge). edgeOf b ∷ l) (edges-more n (drop 140 b) ∙ rw (drop-drop (140 * n) 140 b, e))
 
 -- Twelve bits are both fields.
 both-fields : (b : List Bool) → 12 ≤ length b → valueOf (take 12 b) ≡ edgeOf b .source * 64 + edgeOf b .destination
@@ -75,19 +76,19 @@ pub reading-none : (s sources destinations : List ℕ) → Reading s 0 sources d
 unfolding edgesFrom
 reading-none s sources destinations = record { first-sources = refl; first-destinations = refl }
 
-map-push : (f : PlanEdge → ℕ) (es : List PlanEdge) (e : PlanEdge) → map f (es ++ (e ∷ [])) ≡ map f es ++ (f e ∷ [])
+pub map-push : (f : PlanEdge → ℕ) (es : List PlanEdge) (e : PlanEdge) → map f (es ++ (e ∷ [])) ≡ map f es ++ (f e ∷ [])
 map-push f [] e = refl
 map-push f (x ∷ es) e = ap (λ (l : List ℕ). f x ∷ l) (map-push f es e)
 
-module _ (s : List ℕ) (i x : ℕ) (sources destinations : List ℕ) (room : 337 + 12 * i + 12 ≤ length s * 8) (e : x ≡ valueOf (take 12 (drop (337 + 12 * i) (stream s)))) where
+module _ (s : List ℕ) (i x : ℕ) (sources destinations : List ℕ) (room : 337 + 140 * i + 12 ≤ length s * 8) (e : x ≡ valueOf (take 12 (drop (337 + 140 * i) (stream s)))) where
   here : List Bool
-  here = drop (12 * i) (drop 337 (stream s))
+  here = drop (140 * i) (drop 337 (stream s))
 
   value : x ≡ edgeOf here .source * 64 + edgeOf here .destination
   unfolding here
   value =
-      let l : 12 ≤ length (drop (12 * i) (drop 337 (stream s))) = simp (length-drop, length-stream) (omega arith) in
-      e ∙ rw (sym (drop-drop (12 * i) 337 (stream s))) (both-fields (drop (12 * i) (drop 337 (stream s))) l)
+      let l : 12 ≤ length (drop (140 * i) (drop 337 (stream s))) = simp (length-drop, length-stream) (omega arith) in
+      e ∙ rw (sym (drop-drop (140 * i) 337 (stream s))) (both-fields (drop (140 * i) (drop 337 (stream s))) l)
 
   edges-next : edgesAt s (i + 1) ≡ edgesAt s i ++ (edgeOf here ∷ [])
   unfolding here
@@ -109,16 +110,21 @@ below-all : (n : ℕ) (b : List Bool) (i : ℕ) → getD (map (λ (e : PlanEdge)
 unfolding edgesFrom edgeOf
 below-all zero b i = omega arith
 below-all (suc n) b zero = value-take 6 b
-below-all (suc n) b (suc i) = below-all n (drop 12 b) i
+below-all (suc n) b (suc i) = below-all n (drop 140 b) i
 
-pub reading-end : (s : List ℕ) (k : ℕ) (sources destinations : List ℕ) → 337 + 12 * k ≤ length s * 8 → Reading s k sources destinations → ReadsEdges s k sources destinations
-reading-end s k sources destinations room p = record {
-  read = λ es behind e.
-      let l : k * 12 ≤ length (drop 337 (stream s)) = simp (length-drop, length-stream) (omega arith) in
-      let g : es ≡ edgesAt s k = same es behind (edgesAt s k) _ (sym e ∙ edges-there k (drop 337 (stream s)) l) in
-      (p .first-sources ∙ ap (map (λ (x : PlanEdge). x .source)) (sym g), p .first-destinations ∙ ap (map (λ (x : PlanEdge). x .destination)) (sym g));
-  below = λ i. rw (p .first-sources) (below-all k (drop 337 (stream s)) i);
-}
+-- What was read of them, in whatever way.
+pub edges-are : (s : List ℕ) (k : ℕ) → 337 + 140 * k ≤ length s * 8 → (es : List PlanEdge) (behind : List Bool) → gets edge k (drop 337 (stream s)) ≡ got es behind → es ≡ edgesAt s k
+edges-are s k room es behind e =
+    let l : k * 140 ≤ length (drop 337 (stream s)) = simp (length-drop, length-stream) (omega arith) in
+    same es behind (edgesAt s k) _ (sym e ∙ edges-there k (drop 337 (stream s)) l)
   where
     same : (es : List PlanEdge) (t : List Bool) (fs : List PlanEdge) (u : List Bool) → got es t ≡ got fs u → es ≡ fs
     same es t fs u h = cc
+
+pub reading-end : (s : List ℕ) (k : ℕ) (sources destinations : List ℕ) → 337 + 140 * k ≤ length s * 8 → Reading s k sources destinations → ReadsEdges s k sources destinations
+reading-end s k sources destinations room p = record {
+  read = λ es behind e.
+      let g : es ≡ edgesAt s k = edges-are s k room es behind e in
+      (p .first-sources ∙ ap (map (λ (x : PlanEdge). x .source)) (sym g), p .first-destinations ∙ ap (map (λ (x : PlanEdge). x .destination)) (sym g));
+  below = λ i. rw (p .first-sources) (below-all k (drop 337 (stream s)) i);
+}

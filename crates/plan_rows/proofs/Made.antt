@@ -1,36 +1,36 @@
--- For callers: the room that the edges of a file take, and the lists together as the plan's setup.
+-- For callers: the room that the edges of a file take, and their lookaheads as build takes them.
 use mathlib.Core.Path.{_≡_, refl, sym, ap, _∙_}
 use mathlib.Core.Bool.{Bool}
-use mathlib.Core.List.{List, [], _∷_, _++_, map}
-use Prim.Native.Nat.{ℕ, _+_, _*_, _≤_}
+use mathlib.Core.List.{List, [], _∷_, _++_}
+use Prim.Native.Nat.{ℕ, suc, _+_, _*_, _≤_}
 use native.Mathlib.Omega.{arith}
-use lib.Dec.{leb}
 use lib.ListN.{length, take, drop, length-append, length-drop}
-use Rattle.rules.specs.Base.{rising, upTo}
-use Rattle.rules.specs.Build.{setup}
+use lib.Seq.{getD-take}
 use Rattle.bits.specs.Bits.{bitsOf}
 use Rattle.bits.specs.Bytes.{stream}
 use Rattle.bits.proofs.Fields.{length-bits}
 use Rattle.bits.proofs.Streams.{length-stream}
+use Rattle.types.specs.Value.{halves}
+use Rattle.words.specs.Words.{tab, tickAt, tickOf, ticksIn}
+use Rattle.words.proofs.Tab.{tab-cong, tab-shift}
+use Rattle.words.proofs.Ticks.{tick-cong}
+use Rattle.build_topology.specs.Lookaheads.{lookaheadsFor}
 use Rattle.plan_file.specs.Plan.{PlanEdge, Plan}
 use Rattle.plan_file.specs.Format.{Got, Got.got, field, pair, seen, puts, gets, ReadsAll, gets-back}
 use Rattle.plan_file.specs.Grammar.{edge}
 use Rattle.plan_file.specs.Standing.{Standing}
-use Rattle.plan_rules.specs.Setup.{setupOf}
-use Rattle.plan_rules.specs.Laws.{standing}
-use Rattle.plan_rows.specs.Rows.{ReadsEdges, MakesRows}
 
-length-edge : (e : PlanEdge) → length (edge .put e) ≡ 12
+length-edge : (e : PlanEdge) → length (edge .put e) ≡ 140
 unfolding edge seen pair field
-length-edge e = omega (arith, length-append (bitsOf 6 (e .source)) (bitsOf 6 (e .destination)), length-bits 6 (e .source), length-bits 6 (e .destination))
+length-edge e = simp (length-append, length-bits)
 
-length-edges : (es : List PlanEdge) → length (puts edge es) ≡ length es * 12
+length-edges : (es : List PlanEdge) → length (puts edge es) ≡ length es * 140
 unfolding puts
 length-edges [] = refl
 length-edges (e ∷ es) = omega (arith, length-append (edge .put e) (puts edge es), length-edge e, length-edges es)
 
 -- What was read was there.
-edges-room : (k : ℕ) (b behind : List Bool) (es : List PlanEdge) → gets edge k b ≡ got es behind → 12 * k ≤ length b
+edges-room : (k : ℕ) (b behind : List Bool) (es : List PlanEdge) → gets edge k b ≡ got es behind → 140 * k ≤ length b
 edges-room k b behind es e =
     let r : ReadsAll edge k b (got es behind) = rw e at (gets-back edge k b) in
     let l : length (puts edge es ++ behind) ≡ length b = ap length (r .0) in
@@ -42,19 +42,26 @@ module _ (p : Plan) (s : List ℕ) (k : ℕ) (n : k ≡ length (p .edges)) (e : 
   there = rw n (e .reads)
 
   -- What read_edges asks of the file.
-  pub file-room : 337 + 12 * k ≤ length s * 8
+  pub file-room : 337 + 140 * k ≤ length s * 8
   file-room = omega (arith, e .inside, edges-room k (drop 337 (stream s)) (e .behind) (p .edges) there, length-drop 337 (stream s), length-stream s)
 
-  module _ (from destinations : List ℕ) (r : ReadsEdges s k from destinations) where
-    -- 5: never_fall of the sources read.
-    pub stands : rising leb (take k from) ≡ standing p
-    stands = ap (rising leb) (r .read (p .edges) (e .behind) there .0)
+-- The words of the lookaheads, as many as build asks for.
+pub lookaheads-taken : (ds ws : List ℕ) → length ws ≡ 2 * length ds → lookaheadsFor ds ws ≡ ticksIn (length ds) ws
+unfolding lookaheadsFor tab tickAt
+lookaheads-taken [] [] h = refl
+lookaheads-taken [] (w ∷ ws) h = absurd (omega arith)
+lookaheads-taken (d ∷ ds) [] h = absurd (omega arith)
+lookaheads-taken (d ∷ ds) (x ∷ []) h = absurd (omega arith)
+lookaheads-taken (d ∷ ds) (x ∷ y ∷ ws) h =
+    ap (λ (l : List ℕ). halves x y ∷ l)
+    (lookaheads-taken ds ws (omega arith) ∙ sym (tab-shift (tickOf (x ∷ y ∷ ws)) (tickOf ws) 0 (length ds) (λ k a b. two-on k)))
+  where
+    two-on : (k : ℕ) → tickOf (x ∷ y ∷ ws) (suc k) ≡ tickOf ws k
+    two-on k =
+        let e : 2 * suc k ≡ suc (suc (2 * k)) = omega arith in
+        let f : 2 * suc k + 1 ≡ suc (suc (2 * k + 1)) = omega arith in
+        rw (f, e)
 
-    -- The lists that put_ids, put_rows and read_edges leave.
-    pub setup-made : (ids sources counts : List ℕ) (m : ℕ) → take (p .n) ids ≡ upTo (p .n) → MakesRows (p .n) (take k from) sources counts m
-        → setup (p .n) (p .lookahead) (take (p .n) ids) (take m sources) (take m counts) (take k destinations) ≡ setupOf p
-    unfolding setupOf
-    setup-made ids sources counts m i w =
-        let f = r .read (p .edges) (e .behind) there in
-        let g = w .of-plan p refl (sym (f .0)) in
-        λ j. setup (p .n) (p .lookahead) (i j) (g .0 j) (g .1 j) (f .1 j)
+-- Words behind those of the first k do not count.
+pub first-ticks : (k : ℕ) (w : List ℕ) → ticksIn k (take (2 * k) w) ≡ ticksIn k w
+first-ticks k w = tab-cong (tickOf (take (2 * k) w)) (tickOf w) 0 k (λ j a b. tick-cong (take (2 * k) w) w (2 * j) (2 * j) (getD-take (2 * k) w (2 * j) 0 (omega arith)) (getD-take (2 * k) w (2 * j + 1) 0 (omega arith)))

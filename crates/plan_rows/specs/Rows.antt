@@ -7,6 +7,7 @@ use lib.Dec.{leb, ltb, eqb}
 use lib.ListN.{length, take, drop, getD}
 use Rattle.rules.specs.Base.{count, rising, upTo}
 use Rattle.bits.specs.Bytes.{stream}
+use Rattle.words.specs.Words.{ticksIn}
 use Rattle.plan_file.specs.Plan.{PlanEdge, Plan}
 use Rattle.plan_file.specs.Format.{gets, Got.got}
 use Rattle.plan_file.specs.Grammar.{edge}
@@ -17,6 +18,10 @@ pub record ReadsEdges (s : List ℕ) (k : ℕ) (sources destinations : List ℕ)
   pub read : (es : List PlanEdge) (behind : List Bool) → gets edge k (drop 337 (stream s)) ≡ got es behind
       → (take k sources ≡ map (λ (e : PlanEdge). e .source) es) × (take k destinations ≡ map (λ (e : PlanEdge). e .destination) es)
   pub below : (i : ℕ) → getD (take k sources) i 0 < 64
+
+-- Their lookaheads are the first k of a table of two words each.
+pub record ReadsLookaheads (s : List ℕ) (k : ℕ) (lookaheads : List ℕ) : Type 0 where
+  pub read : (es : List PlanEdge) (behind : List Bool) → gets edge k (drop 337 (stream s)) ≡ got es behind → ticksIn k lookaheads ≡ map (λ (e : PlanEdge). e .lookahead) es
 
 -- What rows are made of: the sources of edges, six bits wide, which never fall; and where they go.
 pub record Rowable (n : ℕ) (from sources counts : List ℕ) : Type 0 where

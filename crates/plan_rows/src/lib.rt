@@ -1,25 +1,42 @@
-// The lists that build takes, made of the edges of a plan file: ids, rows and destinations.
+// The lists that build takes, made of the edges of a plan file: ids, rows, destinations and lookaheads.
 //
-// Each edge is read once. Where sources never fall, build's rows follow from how many edges each source has.
+// Where sources never fall, build's rows follow from how many edges each source has.
+use types::SimTime;
 ghost use mathlib.Core.Path.{_≡_};
 ghost use mathlib.Core.List.{[]};
 ghost use Prim.Native.Nat.{ℕ, _+_, _*_, _<_, _≤_};
 ghost use lib.Dec.{leb};
 ghost use lib.ListN.{length, take, getD};
 ghost use Rattle.rules.specs.Base.{rising, upTo};
-ghost use Rattle.plan_rows.specs.Rows.{ReadsEdges, Rowable, MakesRows, Tallies, hasRow, rowIf, tableRows, PutsRows};
+ghost use Rattle.plan_rows.specs.Rows.{ReadsEdges, ReadsLookaheads, Rowable, MakesRows, Tallies, hasRow, rowIf, tableRows, PutsRows};
 
-// The edges of a file: source and destination have six bits each, and the first stands at 337.
+// The edges of a file, of 140 bits each: source and destination have six bits each, and the first stands
+// at 337.
 pub fn read_edges(s: &[u8], count: usize, sources: &mut [u32], destinations: &mut [u32])
-    requires { ⌜ (337 + 12 * count ≤ length (now s) * 8) × (337 + 12 * count ≤ 131072) ⌝ }
+    requires { ⌜ (337 + 140 * count ≤ length (now s) * 8) × (337 + 140 * count ≤ 131072) ⌝ }
     requires { ⌜ (count ≤ length (now sources)) × (count ≤ length (now destinations)) ⌝ }
     ensures { λ _. ⌜ ReadsEdges (now (s .entry)) count (now (sources .exit)) (now (destinations .exit)) ⌝ }
 {
     let mut i: usize = 0;
     while i < count {
-        let e = bits::read(s, 337 + 12 * i, 12);
+        let e = bits::read(s, 337 + 140 * i, 12);
         sources[i] = (e / 64) as u32;
         destinations[i] = (e % 64) as u32;
+        i += 1;
+    }
+}
+
+// Their lookaheads, "128 bits, behind the destination": the first stands at 349. Two words each, the
+// upper half first.
+pub fn read_lookaheads(s: &[u8], count: usize, lookaheads: &mut [u64])
+    requires { ⌜ (337 + 140 * count ≤ length (now s) * 8) × (length (now s) ≤ 16384) ⌝ }
+    requires { ⌜ 2 * count ≤ length (now lookaheads) ⌝ }
+    ensures { λ _. ⌜ ReadsLookaheads (now (s .entry)) count (now (lookaheads .exit)) ⌝ }
+{
+    let mut i: usize = 0;
+    while i < count {
+        let lookahead = plan_reader::duration_at(s, 349 + 140 * i);
+        words::put_tick(lookaheads, 2 * i, SimTime::after_zero(lookahead));
         i += 1;
     }
 }

@@ -11,7 +11,7 @@ use Rattle.rules.specs.Base.{if_then_else_, upTo, any, member, some}
 use Rattle.rules.specs.State.{Counters, zeros}
 use Rattle.rules.specs.Answers.{Accepted, refusalNumber, number}
 use Rattle.rules.specs.Rows.{Row, unless}
-use Rattle.rules.specs.Build.{BuildOut, missing, unexpected, destinationRows, topologyRows, built, build}
+use Rattle.rules.specs.Build.{Target, BuildOut, missing, unexpected, targets, destinationRows, topologyRows, built, build}
 use Rattle.rules.proofs.Lists.{All, all-append}
 use Rattle.rules.proofs.Table.{by-firsts, firsts-all}
 use Rattle.plan_file.specs.Plan.{Plan}
@@ -42,22 +42,25 @@ module _ (c : Counters) (n : ℕ) where
   abbrev Each : List Row → Type 0
   Each rs = All (λ (r : Row). Listed (turnedAway c (r .refusal))) rs
 
-  listed-destinations : (p : ℕ) (seen ds : List ℕ) → Each (destinationRows n p seen ds)
+  listed-destinations : (p : ℕ) (seen : List ℕ) (ts : List Target) → Each (destinationRows n p seen ts)
   unfolding destinationRows Listed member any number refusalNumber
   listed-destinations p seen [] = tt
-  listed-destinations p seen (d ∷ ds) = (refl, (refl, (refl, listed-destinations p (d ∷ seen) ds)))
+  listed-destinations p seen (t ∷ ts) = (refl, (refl, (refl, (refl, listed-destinations p (t .destination ∷ seen) ts))))
 
-  listed-topology : (sources counts ds : List ℕ) → Each (topologyRows n sources counts ds)
+  listed-topology : (sources counts : List ℕ) (ts : List Target) → Each (topologyRows n sources counts ts)
   unfolding topologyRows Listed member any number refusalNumber
-  listed-topology [] counts ds = tt
-  listed-topology (p ∷ sources) [] ds = tt
-  listed-topology (p ∷ sources) (k ∷ counts) ds = (refl, all-append (λ (r : Row). Listed (turnedAway c (r .refusal))) (destinationRows n p [] (take k ds)) _ (listed-destinations p [] (take k ds)) (listed-topology sources counts (drop k ds)))
+  listed-topology [] counts ts = tt
+  listed-topology (p ∷ sources) [] ts = tt
+  listed-topology (p ∷ sources) (k ∷ counts) ts = (refl, all-append (λ (r : Row). Listed (turnedAway c (r .refusal))) (destinationRows n p [] (take k ts)) _ (listed-destinations p [] (take k ts)) (listed-topology sources counts (drop k ts)))
+
+abbrev edgeTargets : Plan → List Target
+edgeTargets p = targets (setupOf p .destinations) (setupOf p .lookaheads)
 
 listed-build : (p : Plan) (c : Counters) → Listed (unless (planRows p) (turnedAway c) (record { answer = Accepted; made = some (built (setupOf p)); counters = zeros }))
 unfolding Listed member any number refusalNumber
 listed-build p c =
     by-firsts Listed (planRows p) _ _
-    ((λ _. refl), λ _. ((λ _. refl), λ _. ((λ _. refl), λ _. firsts-all (λ r. Listed (turnedAway c r)) (topologyRows (p .n) (setupOf p .sources) (setupOf p .counts) (setupOf p .destinations)) (listed-topology c (p .n) (setupOf p .sources) (setupOf p .counts) (setupOf p .destinations)))))
+    ((λ _. refl), λ _. ((λ _. refl), λ _. ((λ _. refl), λ _. firsts-all (λ r. Listed (turnedAway c r)) (topologyRows (p .n) (setupOf p .sources) (setupOf p .counts) (edgeTargets p)) (listed-topology c (p .n) (setupOf p .sources) (setupOf p .counts) (edgeTargets p)))))
     (λ _. refl)
 
 pub build-numbers : (p : Plan) (c : Counters) → BuildNumbers p c

@@ -19,7 +19,7 @@ use Rattle.rules.proofs.Tests.{by-bool}
 use Rattle.rules.proofs.Demand.{Sound, sound, sound-built, demanded}
 use Rattle.rules.proofs.Counts.{unhandled, handles, no-initial, one-initial}
 use Rattle.plan_file.specs.Plan.{Plan}
-use Rattle.plan_rules.specs.Setup.{setupOf}
+use Rattle.plan_rules.specs.Setup.{setupOf, leastLookaheadOf}
 use Rattle.plan_rules.specs.Host.{after, next}
 use Rattle.plan_file.specs.Events.{eventCount}
 use Rattle.plan_rules.specs.Run.{carried, move, run, enough, ran}
@@ -94,9 +94,9 @@ more-initials : (e : Entry) (es : List Entry) → initials es ≤ initials (e �
 more-initials e es = by-bool (adds e) (λ t. omega (arith, one-initial e es t)) (λ t. omega (arith, no-initial e es t))
 
 module _ (p : Plan) (i : Sound (setupOf p) (emptyHistory (setupOf p))) where
-  pub positive : 0 < p .lookahead
-  unfolding setupOf built
-  positive = i .shaped .sized .ahead
+  pub positive : 0 < leastLookaheadOf p
+  unfolding setupOf
+  positive = i .least
 
   -- Handled events were initial events or emissions: also where the last batch was lost.
   handled-within : (k : ℕ) → History.handled (run p k .entries) ≤ initials (run p k .entries) + emitted (run p k .entries)
@@ -115,13 +115,13 @@ module _ (p : Plan) (i : Sound (setupOf p) (emptyHistory (setupOf p))) where
   unfolding eventCount
   handled-few k = let g = good-run p k .fit in omega (arith, handled-within k, g .few, g .replies)
 
-  pub floor-few : (k : ℕ) → H (run p k .entries) / p .lookahead ≤ suc (p .horizon) / p .lookahead
-  floor-few k = div-le (H (run p k .entries)) (suc (p .horizon)) (p .lookahead) positive (good-run p k .fit .horizon)
+  pub floor-few : (k : ℕ) → H (run p k .entries) / leastLookaheadOf p ≤ suc (p .horizon) / leastLookaheadOf p
+  floor-few k = div-le (H (run p k .entries)) (suc (p .horizon)) (leastLookaheadOf p) positive (good-run p k .fit .horizon)
 
   pub begins-few : (k : ℕ) → R (run p k .entries) ≤ 1
   begins-few k = omega (arith, good-run p k .fit .once, begun-most (run p k .entries))
 
-  pub rounds-few : (k : ℕ) → rounds (run p k .entries) ≤ eventCount p + suc (p .horizon) / p .lookahead + 2
+  pub rounds-few : (k : ℕ) → rounds (run p k .entries) ≤ eventCount p + suc (p .horizon) / leastLookaheadOf p + 2
   unfolding setupOf
   rounds-few k = omega (arith, demanded (setupOf p) (run p k) (sound-run p i k) .few-rounds, floor-few k, begins-few k, handled-few k)
 

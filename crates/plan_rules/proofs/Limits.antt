@@ -7,7 +7,7 @@ use lib.Dec.{leb, ltb}
 use borrow.Author.Tests.{leb-true, leb-false, ltb-true, ltb-false, le-leb, lt-leb}
 use Rattle.rules.proofs.Tests.{by-bool}
 use Rattle.plan_file.specs.Plan.{Plan}
-use Rattle.plan_rules.specs.Setup.{tooLong}
+use Rattle.plan_rules.specs.Setup.{leastLookaheadOf, tooLong}
 use Rattle.plan_rules.specs.Run.{enough}
 use Rattle.plan_rules.specs.Laws.{Limits}
 
@@ -30,9 +30,9 @@ one-more h L l f =
     absurd (omega arith))
     (λ u. let g = leb-false 65538 (suc h / L) u in omega arith)
 
-pub limits : (p : Plan) → 0 < p .lookahead → Limits p
+pub limits : (p : Plan) → 0 < leastLookaheadOf p → Limits p
 unfolding tooLong enough
 limits p l = record {
-  no-division = by-floor (p .horizon) (p .lookahead) l;
-  calls = λ t. omega (arith, one-more (p .horizon) (p .lookahead) l (ltb-false 65536 (p .horizon / p .lookahead) t));
+  no-division = by-floor (p .horizon) (leastLookaheadOf p) l;
+  calls = λ t. omega (arith, one-more (p .horizon) (leastLookaheadOf p) l (ltb-false 65536 (p .horizon / leastLookaheadOf p) t));
 }

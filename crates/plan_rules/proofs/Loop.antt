@@ -20,7 +20,7 @@ use Rattle.rules.proofs.Tests.{by-bool, and-off}
 use Rattle.rules.proofs.Counts.{one-initial, hand-batch}
 use Rattle.rules.proofs.Demand.{sound-built}
 use Rattle.plan_file.specs.Plan.{Reply, Plan}
-use Rattle.plan_rules.specs.Setup.{setupOf, tooLong}
+use Rattle.plan_rules.specs.Setup.{setupOf, leastLookaheadOf, tooLong}
 use Rattle.plan_rules.specs.Host.{replyOf, without, spend, due, left, orBegin, opening, after, next}
 use Rattle.plan_rules.specs.Run.{carried, move, run, enough, ran}
 use Rattle.plan_rules.specs.Listing.{eventLines, handledLines, listing}
@@ -51,7 +51,7 @@ module _ (p : Plan) where
   run-hand c b k = sound-run p (sound-built (setupOf p) c b) k .tallied .kept .hand
 
   -- 39 after an accepted build, without a division.
-  pub run-limit : (c : Counters) → build (setupOf p) c .answer ≡ Accepted → tooLong p ≡ leb (65537 * p .lookahead) (p .horizon)
+  pub run-limit : (c : Counters) → build (setupOf p) c .answer ≡ Accepted → tooLong p ≡ leb (65537 * leastLookaheadOf p) (p .horizon)
   run-limit c b = limits p (positive p (sound-built (setupOf p) c b)) .no-division
 
   -- Lines that do not fit now never will: the listing only grows.

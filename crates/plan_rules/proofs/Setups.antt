@@ -9,7 +9,7 @@ use lib.ListN.{length, take, drop}
 use borrow.Author.Tests.{leb-true, leb-false, ltb-true, ltb-false, eqb-true, eqb-false, le-leb, lt-leb, le-ltb, lt-ltb, eq-eqb}
 use Rattle.rules.specs.Base.{if_then_else_, upFrom, upTo, any, anyOf, member, sum, count, rising}
 use Rattle.rules.specs.State.{Edge}
-use Rattle.rules.specs.Build.{edgesOf, built, missing, unexpected, malformedRows}
+use Rattle.rules.specs.Build.{Target, targets, edgeTo, edgesOf, built, missing, unexpected, malformedRows}
 use Rattle.rules.proofs.Tests.{by-test, by-bool}
 use Rattle.plan_file.specs.Plan.{PlanEdge, Plan}
 use Rattle.plan_rules.specs.Setup.{TopologyRow, joined, edgeRows, place, placeAll, rows, setupOf}
@@ -21,42 +21,44 @@ sourcesOf rs = map (λ (r : TopologyRow). r .source) rs
 abbrev countsOf : List TopologyRow → List ℕ
 countsOf rs = map (λ (r : TopologyRow). r .count) rs
 
-abbrev edge : ℕ → PlanEdge → Edge
-edge L e = record { source = e .source; destination = e .destination; bound = L }
+abbrev edge : PlanEdge → Edge
+edge e = record { source = e .source; destination = e .destination; lookahead = e .lookahead; bound = e .lookahead }
 
-module _ (L : ℕ) where
-  edgesBy : List TopologyRow → List ℕ → List Edge
-  edgesBy rs ds = edgesOf L (sourcesOf rs) (countsOf rs) ds
+abbrev targetsOf : List PlanEdge → List Target
+targetsOf es = targets (map (λ (e : PlanEdge). e .destination) es) (map (λ (e : PlanEdge). e .lookahead) es)
 
-  edges-joined : (q d : ℕ) (rs : List TopologyRow) (ds : List ℕ) → edgesBy (joined q rs) (d ∷ ds) ≡ record { source = q; destination = d; bound = L } ∷ edgesBy rs ds
-  unfolding edgesBy edgesOf joined
-  edges-joined q d [] ds = refl
-  edges-joined q d (r ∷ rs) ds =
-      by-test (λ (l : List TopologyRow). edgesBy l (d ∷ ds) ≡ record { source = q; destination = d; bound = L } ∷ edgesBy (r ∷ rs) ds)
-      (λ t. rw (eqb-true q (r .source) t))
-      (λ t. refl)
+edgesBy : List TopologyRow → List Target → List Edge
+edgesBy rs ts = edgesOf (sourcesOf rs) (countsOf rs) ts
 
-  edges-edgeRows : (es : List PlanEdge) → edgesBy (edgeRows es) (map (λ (e : PlanEdge). e .destination) es) ≡ map (edge L) es
-  unfolding edgesBy edgesOf edgeRows
-  edges-edgeRows [] = refl
-  edges-edgeRows (e ∷ es) = edges-joined (e .source) (e .destination) (edgeRows es) (map (λ (x : PlanEdge). x .destination) es) ∙ ap (λ (l : List Edge). edge L e ∷ l) (edges-edgeRows es)
+edges-joined : (q : ℕ) (t : Target) (rs : List TopologyRow) (ts : List Target) → edgesBy (joined q rs) (t ∷ ts) ≡ edgeTo q t ∷ edgesBy rs ts
+unfolding edgesBy edgesOf joined
+edges-joined q t [] ts = refl
+edges-joined q t (r ∷ rs) ts =
+    by-test (λ (l : List TopologyRow). edgesBy l (t ∷ ts) ≡ edgeTo q t ∷ edgesBy (r ∷ rs) ts)
+    (λ e. rw (eqb-true q (r .source) e))
+    (λ e. refl)
 
-  edges-place : (q : ℕ) (rs : List TopologyRow) (ds : List ℕ) → edgesBy (place q rs) ds ≡ edgesBy rs ds
-  unfolding edgesBy edgesOf place
-  edges-place q [] ds = refl
-  edges-place q (r ∷ rs) ds =
-      by-test (λ (l : List TopologyRow). edgesBy l ds ≡ edgesBy (r ∷ rs) ds) (λ t. refl) (λ t.
-      by-test (λ (l : List TopologyRow). edgesBy l ds ≡ edgesBy (r ∷ rs) ds) (λ u. refl) (λ u.
-      ap (λ (l : List Edge). map (λ d. record { source = r .source; destination = d; bound = L }) (take (r .count) ds) ++ l) (edges-place q rs (drop (r .count) ds))))
+edges-edgeRows : (es : List PlanEdge) → edgesBy (edgeRows es) (targetsOf es) ≡ map edge es
+unfolding edgesBy edgesOf edgeRows targets
+edges-edgeRows [] = refl
+edges-edgeRows (e ∷ es) = edges-joined (e .source) (record { destination = e .destination; lookahead = e .lookahead }) (edgeRows es) (targetsOf es) ∙ ap (λ (l : List Edge). edge e ∷ l) (edges-edgeRows es)
 
-  edges-all : (qs : List ℕ) (rs : List TopologyRow) (ds : List ℕ) → edgesBy (placeAll qs rs) ds ≡ edgesBy rs ds
-  unfolding placeAll
-  edges-all [] rs ds = refl
-  edges-all (q ∷ qs) rs ds = edges-all qs (place q rs) ds ∙ edges-place q rs ds
+edges-place : (q : ℕ) (rs : List TopologyRow) (ts : List Target) → edgesBy (place q rs) ts ≡ edgesBy rs ts
+unfolding edgesBy edgesOf place
+edges-place q [] ts = refl
+edges-place q (r ∷ rs) ts =
+    by-test (λ (l : List TopologyRow). edgesBy l ts ≡ edgesBy (r ∷ rs) ts) (λ e. refl) (λ e.
+    by-test (λ (l : List TopologyRow). edgesBy l ts ≡ edgesBy (r ∷ rs) ts) (λ u. refl) (λ u.
+    ap (λ (l : List Edge). map (edgeTo (r .source)) (take (r .count) ts) ++ l) (edges-place q rs (drop (r .count) ts))))
 
-edges-made : (p : Plan) → built (setupOf p) .edges ≡ map (edge (p .lookahead)) (p .edges)
+edges-all : (qs : List ℕ) (rs : List TopologyRow) (ts : List Target) → edgesBy (placeAll qs rs) ts ≡ edgesBy rs ts
+unfolding placeAll
+edges-all [] rs ts = refl
+edges-all (q ∷ qs) rs ts = edges-all qs (place q rs) ts ∙ edges-place q rs ts
+
+edges-made : (p : Plan) → built (setupOf p) .edges ≡ map edge (p .edges)
 unfolding built setupOf rows edgesBy
-edges-made p = edges-all (p .lookahead) (upTo (p .n)) (edgeRows (p .edges)) (map (λ (e : PlanEdge). e .destination) (p .edges)) ∙ edges-edgeRows (p .lookahead) (p .edges)
+edges-made p = edges-all (upTo (p .n)) (edgeRows (p .edges)) (targetsOf (p .edges)) ∙ edges-edgeRows (p .edges)
 
 -- Sums of the counts
 sum-joined : (q : ℕ) (rs : List TopologyRow) → sum (countsOf (joined q rs)) ≡ suc (sum (countsOf rs))
@@ -144,9 +146,10 @@ unfolding malformedRows setupOf anyOf any
 five p =
     let n : length (sourcesOf (rows p)) ≡ length (countsOf (rows p)) = length-mapped _ (rows p) ∙ sym (length-mapped _ (rows p)) in
     let d : length (map (λ (e : PlanEdge). e .destination) (p .edges)) ≡ length (p .edges) = length-mapped _ (p .edges) in
+    let l : length (map (λ (e : PlanEdge). e .lookahead) (p .edges)) ≡ length (p .edges) = length-mapped _ (p .edges) in
     let r : rising ltb (sourcesOf (rows p)) ≡ standing p = unfold rows Rises in (rises-all (upTo (p .n)) (edgeRows (p .edges)) ∙ rises-edgeRows (p .edges)) in
     let c : sum (countsOf (rows p)) ≡ length (p .edges) = unfold rows in (sum-all (upTo (p .n)) (edgeRows (p .edges)) ∙ sum-edgeRows (p .edges)) in
-    rw (eq-eqb _ _ n, r, c, d, eq-eqb (length (p .edges)) (length (p .edges)) refl) (tidy (not (standing p)) (ltb 512 (length (p .edges))))
+    rw (eq-eqb _ _ n, r, c, d, l, eq-eqb (length (p .edges)) (length (p .edges)) refl) (tidy (not (standing p)) (ltb 512 (length (p .edges))))
   where
     tidy : (a b : Bool) → a || (false || (b || false)) ≡ a || b
     tidy true b = refl

@@ -20,7 +20,7 @@ use Rattle.rules.proofs.Counts.{unhandled, handles}
 use Rattle.rules.proofs.Shape.{Known}
 use Rattle.rules.proofs.Demand.{Sound, sound-built, demanded}
 use Rattle.plan_file.specs.Plan.{Plan}
-use Rattle.plan_rules.specs.Setup.{setupOf, tooLong}
+use Rattle.plan_rules.specs.Setup.{setupOf, leastLookaheadOf, tooLong}
 use Rattle.plan_rules.specs.Host.{next}
 use Rattle.plan_file.specs.Events.{eventCount}
 use Rattle.plan_rules.specs.Run.{carried, move, run, enough, ran}
@@ -87,15 +87,15 @@ module _ (p : Plan) (i : Sound (setupOf p) (emptyHistory (setupOf p))) where
           let s = sound-run p i k in
           one-more-batch _ (run p k .entries) (rw (s .tallied .kept .hand) (short-lines (run p k .now .n) (s .shaped .sized .few) (run p k .now .batch) (s .shaped .held .known))) h
 
-  null-messages-few : (k : ℕ) → suc (p .horizon) / p .lookahead ≤ 65537 → nullMessages (run p k .entries) ≤ 512 * 65538
+  null-messages-few : (k : ℕ) → suc (p .horizon) / leastLookaheadOf p ≤ 65537 → nullMessages (run p k .entries) ≤ 512 * 65538
   unfolding setupOf
   null-messages-few k h =
       let s = sound-run p i k in
       let a : E (setupOf p) ≤ 512 = omega (arith, s .fixed .edges, s .shaped .wired .few) in
-      let b : H (run p k .entries) / p .lookahead + R (run p k .entries) ≤ 65538 = omega (arith, floor-few p i k, begins-few p i k) in
+      let b : H (run p k .entries) / leastLookaheadOf p + R (run p k .entries) ≤ 65538 = omega (arith, floor-few p i k, begins-few p i k) in
       omega (arith, demanded (setupOf p) (run p k) s .few-null-messages, mul-le-mul a b)
 
-  listing-fits : (k : ℕ) → suc (p .horizon) / p .lookahead ≤ 65537 → eventCount p ≤ 901 → length (listing (run p k)) ≤ 39 * eventCount p + 55
+  listing-fits : (k : ℕ) → suc (p .horizon) / leastLookaheadOf p ≤ 65537 → eventCount p ≤ 901 → length (listing (run p k)) ≤ 39 * eventCount p + 55
   unfolding listing
   listing-fits k h e =
       let y = run p k in
@@ -107,4 +107,4 @@ pub size-fits : (p : Plan) (c : Counters) → build (setupOf p) c .answer ≡ Ac
 unfolding ran tooLong
 size-fits p c b =
     let i = sound-built (setupOf p) c b in
-    record { fits = λ t e. listing-fits p i (enough p) (one-more (p .horizon) (p .lookahead) (positive p i) (ltb-false 65536 (p .horizon / p .lookahead) t)) e }
+    record { fits = λ t e. listing-fits p i (enough p) (one-more (p .horizon) (leastLookaheadOf p) (positive p i) (ltb-false 65536 (p .horizon / leastLookaheadOf p) t)) e }

@@ -11,14 +11,14 @@ use Rattle.rules.specs.State.{Message, Event, State, Counters, unset, zeros, ma
 use Rattle.rules.specs.Answers
 use Rattle.rules.specs.Answers.{Refusal, Accepted, Refused}
 use Rattle.rules.specs.Rows.{Row, _⇒_, unless}
-use Rattle.rules.specs.Build.{BuildOut, missing, unexpected, malformedRows, topologyRows, built, build}
+use Rattle.rules.specs.Build.{BuildOut, missing, unexpected, malformedRows, targets, topologyRows, built, build}
 use Rattle.rules.specs.Initial.{addInitial}
 use Rattle.rules.specs.HandBack.{Emission, handBack}
 use Rattle.rules.specs.Calls.{Call, AddInitial, Begin, Step, HandBack}
 use Rattle.rules.specs.History.{Entry, History, emptyHistory, runCalls, inHand, commits, eventsAt}
 use Rattle.rules.specs.Demand.{Demanded}
 use Rattle.plan_file.specs.Plan.{PlanEdge, Reply, Plan}
-use Rattle.plan_rules.specs.Setup.{setupOf, tooLong}
+use Rattle.plan_rules.specs.Setup.{setupOf, leastLookaheadOf, tooLong}
 use Rattle.plan_rules.specs.Host.{emission, next}
 use Rattle.plan_file.specs.Like.{Like, LikeEmission, Alike}
 use Rattle.plan_file.specs.Events.{eventCount}
@@ -31,8 +31,8 @@ abbrev pub standing : Plan → Bool
 standing p = rising leb (map (λ (e : PlanEdge). e .source) (p .edges))
 
 pub record Sets (p : Plan) : Type 0 where
-  -- Build makes the file's edges, in the file's order.
-  pub edges : built (setupOf p) .edges ≡ map (λ (e : PlanEdge). record { source = e .source; destination = e .destination; bound = p .lookahead }) (p .edges)
+  -- Build makes the file's edges, in the file's order, each with its own lookahead.
+  pub edges : built (setupOf p) .edges ≡ map (λ (e : PlanEdge). record { source = e .source; destination = e .destination; lookahead = e .lookahead; bound = e .lookahead }) (p .edges)
   -- 5 is for edges that do not stand by rising source, and for more than 512.
   pub five : malformedRows (setupOf p) ≡ (not (standing p) || ltb 512 (length (p .edges)))
   -- 3, 4 and 6 never come.
@@ -40,7 +40,7 @@ pub record Sets (p : Plan) : Type 0 where
   pub four : missing (setupOf p .ids) (upTo (p .n)) + unexpected (p .n) (setupOf p .ids) ≡ 0
   pub six : any (λ q. not (member q (setupOf p .sources))) (upTo (p .n)) ≡ false
 
--- Build of a plan: 1, 2, 5, then 7 to 10. So code need make no rows where one of the first three holds.
+-- Build of a plan: 1, 2, 5, then 7 to 10 and 40. So code need make no rows where one of the first three holds.
 abbrev pub turnedAway : Counters → Refusal → BuildOut
 turnedAway c r = record { answer = Refused r; made = none; counters = c }
 
@@ -49,7 +49,7 @@ planRows p =
     (eqb (p .n) 0 || ltb maxProcesses (p .n) ⇒ Answers.InvalidPartitionCount (p .n))
     ∷ (eqb (p .lookahead) 0 ⇒ Answers.InvalidLookahead)
     ∷ (not (standing p) || ltb maxEdges (length (p .edges)) ⇒ Answers.MalformedTopology)
-    ∷ topologyRows (p .n) (setupOf p .sources) (setupOf p .counts) (setupOf p .destinations)
+    ∷ topologyRows (p .n) (setupOf p .sources) (setupOf p .counts) (targets (setupOf p .destinations) (setupOf p .lookaheads))
 
 pub record Builds (p : Plan) (c : Counters) : Type 0 where
   pub table : build (setupOf p) c ≡ unless (planRows p) (turnedAway c) (record { answer = Accepted; made = some (built (setupOf p)); counters = zeros })
@@ -59,7 +59,7 @@ pub record Builds (p : Plan) (c : Counters) : Type 0 where
 
 -- 39 without a division, and how many calls it lets pass.
 pub record Limits (p : Plan) : Type 0 where
-  pub no-division : tooLong p ≡ leb (65537 * p .lookahead) (p .horizon)
+  pub no-division : tooLong p ≡ leb (65537 * leastLookaheadOf p) (p .horizon)
   pub calls : tooLong p ≡ false → enough p ≤ length (p .initial) + 2 * eventCount p + 131081
 
 -- Replies

@@ -1,4 +1,4 @@
--- Which of document 01's numbers the last line of a listing can have.
+-- Which of document 01's numbers, and 40 of document 02, the last line of a listing can have.
 use mathlib.Core.Path.{_≡_}
 use mathlib.Core.Bool.{true}
 use mathlib.Core.List.{List, [], _∷_}
@@ -13,9 +13,9 @@ use Rattle.plan_rules.specs.Setup.{setupOf}
 use Rattle.plan_rules.specs.Run.{ran}
 use Rattle.plan_rules.specs.Listing.{lastNumber}
 
--- Of a plan's build: 3, 4 and 6 cannot come.
+-- Of a plan's build: 3, 4 and 6 cannot come. 40 can, by an edge of lookahead 0 (A.4).
 abbrev pub buildNumbers : List ℕ
-buildNumbers = 0 ∷ 1 ∷ 2 ∷ 5 ∷ 7 ∷ 8 ∷ 9 ∷ 10 ∷ []
+buildNumbers = 0 ∷ 1 ∷ 2 ∷ 5 ∷ 7 ∷ 8 ∷ 9 ∷ 10 ∷ 40 ∷ []
 
 pub record BuildNumbers (p : Plan) (c : Counters) : Type 0 where
   pub among : member (number (build (setupOf p) c .answer)) buildNumbers ≡ true

@@ -6,7 +6,7 @@ use Rattle.rules.specs.State.{Counters, zeros}
 use Rattle.rules.specs.Answers.{Accepted}
 use Rattle.rules.specs.Build.{build}
 use Rattle.plan_file.specs.Plan.{Plan}
-use Rattle.plan_rules.specs.Setup.{setupOf}
+use Rattle.plan_rules.specs.Setup.{setupOf, leastLookaheadOf}
 use Rattle.plan_rules.specs.Ends.{Ends}
 use Rattle.plan_rules.specs.Laws.{Sets, Builds, Limits, Runs, LongPayloads}
 use Rattle.plan_rules.specs.Size.{Texts, Fits, Program}
@@ -18,7 +18,7 @@ pub record Proved : Type 0 where
   pub sets : (p : Plan) → Sets p
   pub builds : (p : Plan) (c : Counters) → Builds p c
   pub build-numbers : (p : Plan) (c : Counters) → BuildNumbers p c
-  pub limits : (p : Plan) → 0 < p .lookahead → Limits p
+  pub limits : (p : Plan) → 0 < leastLookaheadOf p → Limits p
   pub ends : (p : Plan) → build (setupOf p) zeros .answer ≡ Accepted → Ends p
   pub runs : (p : Plan) → build (setupOf p) zeros .answer ≡ Accepted → Runs p
   pub long-payloads : LongPayloads

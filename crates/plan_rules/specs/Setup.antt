@@ -4,7 +4,7 @@ use mathlib.Core.List.{List, [], _∷_, map}
 use Prim.Native.Nat.{ℕ, suc, _/_}
 use lib.Dec.{ltb, eqb}
 use Rattle.rules.specs.Base.{if_then_else_, upTo}
-use Rattle.rules.specs.Build.{Setup}
+use Rattle.rules.specs.Build.{Setup, leastLookahead}
 use Rattle.plan_file.specs.Plan.{PlanEdge, Plan}
 
 -- A row of build: its source and how many destinations it takes.
@@ -33,10 +33,18 @@ placeAll (p ∷ ps) rs = placeAll ps (place p rs)
 unfoldable pub rows : Plan → List TopologyRow
 rows p = placeAll (upTo (p .n)) (edgeRows (p .edges))
 
--- "Every process has a row, and so has any other source of an edge; edges stand by rising source, else 5."
-unfoldable pub setupOf : Plan → Setup
-setupOf p = record { n = p .n; lookahead = p .lookahead; ids = upTo (p .n); sources = map (λ (r : TopologyRow). r .source) (rows p); counts = map (λ (r : TopologyRow). r .count) (rows p); destinations = map (λ (e : PlanEdge). e .destination) (p .edges) }
+-- The edges' lookaheads, in the file's order.
+abbrev pub lookaheadsOf : Plan → List ℕ
+lookaheadsOf p = map (λ (e : PlanEdge). e .lookahead) (p .edges)
 
--- 39: "floor(horizon / lookahead) above 65,536, after build": there the lookahead is not 0.
+-- "Every process has a row, and so has any other source of an edge; edges stand by rising source, else 5." A.4: "Each edge gets its own lookahead, beside its destination in build's list".
+unfoldable pub setupOf : Plan → Setup
+setupOf p = record { n = p .n; lookahead = p .lookahead; ids = upTo (p .n); sources = map (λ (r : TopologyRow). r .source) (rows p); counts = map (λ (r : TopologyRow). r .count) (rows p); destinations = map (λ (e : PlanEdge). e .destination) (p .edges); lookaheads = lookaheadsOf p }
+
+-- A.4: "the least edge lookahead, or the plan's if there is no edge", even where the plan's is less. It is the L of the rules' demand 3.
+abbrev pub leastLookaheadOf : Plan → ℕ
+leastLookaheadOf p = leastLookahead (p .lookahead) (lookaheadsOf p)
+
+-- 39: "floor(horizon / lookahead) above 65,536, after build"; A.4: "in 39, read the least edge lookahead". After an accepted build it is not 0.
 unfoldable pub tooLong : Plan → Bool
-tooLong p = ltb 65536 (p .horizon / p .lookahead)
+tooLong p = ltb 65536 (p .horizon / leastLookaheadOf p)

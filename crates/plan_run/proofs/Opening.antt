@@ -121,7 +121,7 @@ module _ (p : Plan) (k : ℕ) (h : Header) (E Q Z : List ℕ) (i : Before p k h 
   last-number m e = number-next p k h zeroCounters E Q Z (zeroes 512) (i .reached) call n (withZero r) E Q′ Z (zeroes 512) g m e
 
 -- What add initial asks.
-pub can-add : (s : List ℕ) (k at : ℕ) (h : Header) (E Q Z : List ℕ) → Adding s k at h E Q Z → (4 * h .edges ≤ length E) × CanEnqueue h Q
+pub can-add : (s : List ℕ) (k at : ℕ) (h : Header) (E Q Z : List ℕ) → Adding s k at h E Q Z → (6 * h .edges ≤ length E) × CanEnqueue h Q
 can-add s k at h E Q Z i =
     let l = i .before .reached .lent in (
       omega (arith, l .edge-words, few-edges h E Q Z (zeroes 512) (l .passes)),

@@ -28,7 +28,7 @@ use Rattle.plan_run.specs.Opens.{Begun}
 pub record Built (p : Plan) (h : Header) (edges processes : List ℕ) : Type 0 where
   pub accepted : build (setupOf p) R.zeros .answer ≡ Accepted
   pub state : built (setupOf p) ≡ view h edges (zeroes 4096) processes (zeroes 512)
-  pub edge-words : length edges ≡ 2048
+  pub edge-words : length edges ≡ 3072
   pub process-words : length processes ≡ 256
 
 -- So many initial events stand at the bit `at`.

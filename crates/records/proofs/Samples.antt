@@ -15,8 +15,8 @@ one-event :
 unfolding halves tab tickAt if_then_else_ payloadByte payloadOf recordIn eventAt
 one-event = refl
 
--- From 0 to 1, bound 2^64 + 4.
-one-edge : edgesOf 1 (0 ∷ 1 ∷ 1 ∷ 4 ∷ []) ≡ record { source = 0; destination = 1; bound = 18446744073709551620 } ∷ []
+-- From 0 to 1, lookahead 3, bound 2^64 + 4.
+one-edge : edgesOf 1 (0 ∷ 1 ∷ 0 ∷ 3 ∷ 1 ∷ 4 ∷ []) ≡ record { source = 0; destination = 1; lookahead = 3; bound = 18446744073709551620 } ∷ []
 unfolding halves tab tickAt edgeAt
 one-edge = refl
 

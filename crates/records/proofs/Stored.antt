@@ -12,8 +12,9 @@ use Rattle.types.specs.Value.{ticksOf}
 use Rattle.types.proofs.Halves.{lt-or-ge}
 use Rattle.words.specs.Words.{tickAt, putTick, cleared}
 use Rattle.words.proofs.Tab.{tab-cong, length-tab}
-use Rattle.words.proofs.Ticks.{tick-cong, tick-same, word-other}
+use Rattle.words.proofs.Ticks.{tick-cong, tick-same, tick-other, word-other}
 use Rattle.words.proofs.Places.{clear-front}
+use Rattle.rules.specs.State.{withBound}
 use Rattle.records.specs.declared.Record.{Record}
 use Rattle.records.specs.Records.{payloadOf, eventOf, recordIn, wordsOf, putRecord, eventAt, eventsOf, edgeAt, edgesOf}
 
@@ -44,17 +45,20 @@ event-cong u w i j h = ap eventOf (record-cong u w (8 * i) (8 * j) h)
 pub events-cong : (n : ℕ) (u w : List ℕ) → ((k : ℕ) → k < 8 * n → getD u k 0 ≡ getD w k 0) → eventsOf n u ≡ eventsOf n w
 events-cong n u w h = tab-cong _ _ 0 n (λ i a b. event-cong u w i i (λ k c. h (8 * i + k) (omega arith)))
 
-pub edge-cong : (u w : List ℕ) (i j : ℕ) → ((k : ℕ) → k < 4 → getD u (4 * i + k) 0 ≡ getD w (4 * j + k) 0) → edgeAt u i ≡ edgeAt w j
+pub edge-cong : (u w : List ℕ) (i j : ℕ) → ((k : ℕ) → k < 6 → getD u (6 * i + k) 0 ≡ getD w (6 * j + k) 0) → edgeAt u i ≡ edgeAt w j
 unfolding edgeAt
 edge-cong u w i j h =
-    let s : getD u (4 * i) 0 ≡ getD w (4 * j) 0 = simp add-zero at (h 0 (omega arith)) in
-    let a : 4 * i + 2 + 1 ≡ 4 * i + 3 = omega arith in
-    let b : 4 * j + 2 + 1 ≡ 4 * j + 3 = omega arith in
-    let t : tickAt u (4 * i + 2) ≡ tickAt w (4 * j + 2) = tick-cong u w (4 * i + 2) (4 * j + 2) (h 2 (omega arith)) (rw (a, b) (h 3 (omega arith))) in
-    λ k. record { source = s k; destination = h 1 (omega arith) k; bound = t k }
+    let s : getD u (6 * i) 0 ≡ getD w (6 * j) 0 = simp add-zero at (h 0 (omega arith)) in
+    let a : 6 * i + 2 + 1 ≡ 6 * i + 3 = omega arith in
+    let b : 6 * j + 2 + 1 ≡ 6 * j + 3 = omega arith in
+    let l : tickAt u (6 * i + 2) ≡ tickAt w (6 * j + 2) = tick-cong u w (6 * i + 2) (6 * j + 2) (h 2 (omega arith)) (rw (a, b) (h 3 (omega arith))) in
+    let c : 6 * i + 4 + 1 ≡ 6 * i + 5 = omega arith in
+    let d : 6 * j + 4 + 1 ≡ 6 * j + 5 = omega arith in
+    let t : tickAt u (6 * i + 4) ≡ tickAt w (6 * j + 4) = tick-cong u w (6 * i + 4) (6 * j + 4) (h 4 (omega arith)) (rw (c, d) (h 5 (omega arith))) in
+    λ k. record { source = s k; destination = h 1 (omega arith) k; lookahead = l k; bound = t k }
 
-pub edges-cong : (n : ℕ) (u w : List ℕ) → ((k : ℕ) → k < 4 * n → getD u k 0 ≡ getD w k 0) → edgesOf n u ≡ edgesOf n w
-edges-cong n u w h = tab-cong _ _ 0 n (λ i a b. edge-cong u w i i (λ k c. h (4 * i + k) (omega arith)))
+pub edges-cong : (n : ℕ) (u w : List ℕ) → ((k : ℕ) → k < 6 * n → getD u k 0 ≡ getD w k 0) → edgesOf n u ≡ edgesOf n w
+edges-cong n u w h = tab-cong _ _ 0 n (λ i a b. edge-cong u w i i (λ k c. h (6 * i + k) (omega arith)))
 
 -- An event by the record read in its place, and its tick where it stands.
 pub event-read : (w : List ℕ) (i : ℕ) (r : Record) → r ≡ recordIn w (8 * i) → eventAt w i ≡ eventOf r
@@ -117,17 +121,18 @@ pub events-cleared : (n from to : ℕ) (w : List ℕ) → 8 * n ≤ from → fro
 events-cleared n from to w h a b = events-cong n _ w (λ k l. clear-front from to w a b k (omega arith))
 
 -- A bound stored: its edge has it, and the others stay.
-pub bound-same : (w : List ℕ) (i : ℕ) (t : SimTime) → 4 * i + 4 ≤ length w
-    → edgeAt (putTick w (4 * i + 2) t) i ≡ record { source = edgeAt w i .source; destination = edgeAt w i .destination; bound = ticksOf t }
+pub bound-same : (w : List ℕ) (i : ℕ) (t : SimTime) → 6 * i + 6 ≤ length w
+    → edgeAt (putTick w (6 * i + 4) t) i ≡ withBound (edgeAt w i) (ticksOf t)
 unfolding edgeAt
 bound-same w i t h = λ k. record {
-  source = word-other w (4 * i + 2) t (4 * i) (λ e. omega arith) (λ e. omega arith) k;
-  destination = word-other w (4 * i + 2) t (4 * i + 1) (λ e. omega arith) (λ e. omega arith) k;
-  bound = tick-same w (4 * i + 2) t (omega arith) k;
+  source = word-other w (6 * i + 4) t (6 * i) (λ e. omega arith) (λ e. omega arith) k;
+  destination = word-other w (6 * i + 4) t (6 * i + 1) (λ e. omega arith) (λ e. omega arith) k;
+  lookahead = tick-other w (6 * i + 4) t (6 * i + 2) (λ e. omega arith) (λ e. omega arith) (λ e. omega arith) k;
+  bound = tick-same w (6 * i + 4) t (omega arith) k;
 }
 
-pub bound-other : (w : List ℕ) (i k : ℕ) (t : SimTime) → k ≢ i → edgeAt (putTick w (4 * i + 2) t) k ≡ edgeAt w k
-bound-other w i k t ne = edge-cong _ w k k (λ j l. word-other w (4 * i + 2) t (4 * k + j) (λ e. ne (omega arith)) (λ e. ne (omega arith)))
+pub bound-other : (w : List ℕ) (i k : ℕ) (t : SimTime) → k ≢ i → edgeAt (putTick w (6 * i + 4) t) k ≡ edgeAt w k
+bound-other w i k t ne = edge-cong _ w k k (λ j l. word-other w (6 * i + 4) t (6 * k + j) (λ e. ne (omega arith)) (λ e. ne (omega arith)))
 
 -- Eight stores.
 pub eight-stores : (w : List ℕ) (at : ℕ) (r : Record) → at + 8 ≤ length w →

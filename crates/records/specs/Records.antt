@@ -1,4 +1,4 @@
--- What flat words say: events of eight words and edges of four, as the rules' records. Reading past the end gives zeros.
+-- What flat words say: events of eight words and edges of six, as the rules' records. Reading past the end gives zeros.
 use mathlib.Core.List.{List, [], _∷_, _++_}
 use Prim.Native.Nat.{ℕ, _+_, _-_, _*_, _^_, _/_, _%_, _<_}
 use lib.Dec.{ltb}
@@ -64,9 +64,9 @@ eventsOf n w = tab (eventAt w) 0 n
 unfoldable pub Owners : ℕ → List ℕ → Type 0
 Owners n w = (i : ℕ) → i < n → eventAt w i .destination < 64
 
--- Edge i, four words: source, destination, bound; and the first n edges.
+-- Edge i, six words: source, destination, lookahead, bound; and the first n edges.
 unfoldable pub edgeAt : List ℕ → ℕ → Edge
-edgeAt w i = record { source = getD w (4 * i) 0; destination = getD w (4 * i + 1) 0; bound = tickAt w (4 * i + 2) }
+edgeAt w i = record { source = getD w (6 * i) 0; destination = getD w (6 * i + 1) 0; lookahead = tickAt w (6 * i + 2); bound = tickAt w (6 * i + 4) }
 
 abbrev pub edgesOf : ℕ → List ℕ → List Edge
 edgesOf n w = tab (edgeAt w) 0 n

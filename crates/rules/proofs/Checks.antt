@@ -9,29 +9,33 @@ use borrow.Author.Tests.{leb-false, ltb-false, eqb-true, eqb-false}
 use Rattle.rules.specs.Base.{if_then_else_, any, anyOf, upTo}
 use Rattle.rules.specs.State.{Event, Message, State}
 use Rattle.rules.specs.Rows.{Row}
-use Rattle.rules.specs.Pending.{route}
+use Rattle.rules.specs.Pending.{route, lookaheadAlong}
 use Rattle.rules.specs.HandBack.{Emission, failed, emittersFall, inBatch, malformed, minimum, messageRows, stragglerRow, emissionRows, processRows}
 use Rattle.rules.proofs.Tests.{not-false}
 use Rattle.rules.proofs.Lists.{All, all-map, all-both, all-front, all-rest, all-swap, any-none, any-some}
 use Rattle.rules.proofs.Table.{Passed}
+
+-- The lookahead of the edge that a message of p goes along.
+abbrev pub along : State → ℕ → Message → ℕ
+along s p m = lookaheadAlong (s .edges) p (m .destination)
 
 -- 28 to 32.
 pub record Routed (s : State) (p t : ℕ) (m : Message) : Type 0 where
   pub own : m .source ≡ p
   pub known : m .destination < s .n
   pub route : route (s .edges) p (m .destination) ≡ true
-  pub least : minimum (s .lookahead) p t m ≤ m .tick
+  pub least : minimum (along s p m) p t m ≤ m .tick
 
 -- 33.
 abbrev pub InTime : State → Message → Type 0
 InTime s m = getD (s .horizons) (m .destination) 0 ≤ m .tick
 
-pub routed : (s : State) (p t : ℕ) (m : Message) → Passed (messageRows (s .n) (route (s .edges)) (s .lookahead) p t m) → Routed s p t m
+pub routed : (s : State) (p t : ℕ) (m : Message) → Passed (messageRows (s .n) (route (s .edges)) (along s p m) p t m) → Routed s p t m
 routed s p t m i = record {
   own = eqb-true (m .source) p (not-false (eqb (m .source) p) (i .0));
   known = leb-false (s .n) (m .destination) (i .1 .0);
   route = not-false (route (s .edges) p (m .destination)) (i .1 .1 .0);
-  least = ltb-false (m .tick) (minimum (s .lookahead) p t m) (i .1 .1 .1 .1 .0);
+  least = ltb-false (m .tick) (minimum (along s p m) p t m) (i .1 .1 .1 .1 .0);
 }
 
 -- Of the emissions of the event b in hand.
@@ -43,7 +47,7 @@ unfolding emissionRows if_then_else_
 checked-emissions s b [] i = tt
 checked-emissions s b (x ∷ xs) i = go (eqb (x .emitter) (b .destination)) refl i (checked-emissions s b xs)
   where
-    go : (t : Bool) → eqb (x .emitter) (b .destination) ≡ t → Passed (if t then (messageRows (s .n) (route (s .edges)) (s .lookahead) (x .emitter) (b .tick) (x .message) ++ (stragglerRow s (x .message) ∷ emissionRows s b xs)) else emissionRows s b xs)
+    go : (t : Bool) → eqb (x .emitter) (b .destination) ≡ t → Passed (if t then (messageRows (s .n) (route (s .edges)) (along s (x .emitter) (x .message)) (x .emitter) (b .tick) (x .message) ++ (stragglerRow s (x .message) ∷ emissionRows s b xs)) else emissionRows s b xs)
         → (Passed (emissionRows s b xs) → All (Checked s b) xs) → All (Checked s b) (x ∷ xs)
     go true e i ih = ((λ _. (routed s (x .emitter) (b .tick) (x .message) (i .0, (i .1 .0, (i .1 .1 .0, (i .1 .1 .1 .0, (i .1 .1 .1 .1 .0, tt))))), ltb-false _ _ (i .1 .1 .1 .1 .1 .0))), ih (i .1 .1 .1 .1 .1 .1))
     go false e i ih = ((λ h. absurd (eqb-false (x .emitter) (b .destination) e h)), ih i)

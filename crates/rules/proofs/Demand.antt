@@ -2,7 +2,7 @@
 use mathlib.Core.Path.{_≡_, refl, sym, ap, _∙_}
 use mathlib.Core.Bool.{false, true≢false}
 use mathlib.Core.List.{List, [], _∷_}
-use Prim.Native.Nat.{ℕ, suc}
+use Prim.Native.Nat.{ℕ, suc, _<_}
 use native.Mathlib.Omega.{arith}
 use lib.ListN.{length}
 use Rattle.rules.specs.Base.{if_then_else_, upTo, count}
@@ -24,7 +24,7 @@ use Rattle.rules.proofs.ShapeCalls.{Shapes, shape-kept}
 use Rattle.rules.proofs.Tally.{Tallied, Tells}
 use Rattle.rules.proofs.TallyCalls.{tells}
 use Rattle.rules.proofs.Fronts.{length-edges}
-use Rattle.rules.proofs.Pace.{Paced, paced-built, few-null-messages, few-rounds}
+use Rattle.rules.proofs.Pace.{Paced, AtLookahead, paced-built, few-null-messages, few-rounds}
 use Rattle.rules.proofs.PaceCalls.{pace-kept}
 use Rattle.rules.proofs.Fair.{Reach, Capped}
 use Rattle.rules.proofs.FairCalls.{FairIn, fair-kept}
@@ -69,9 +69,10 @@ fixed-kept look k s c (HandBack mask xs) i = by-back s c mask xs (λ o. Fixes lo
 pub record Sound (a : Setup) (y : History) : Type 0 where
   pub shaped : Shaped (y .now)
   pub tallied : Tallied y
-  pub paced : Paced y
+  pub paced : Paced (L a) y
   pub fair : FairIn y
-  pub fixed : Fixed (L a) (E a) (y .now)
+  pub fixed : Fixed (a .lookahead) (E a) (y .now)
+  pub least : 0 < L a
   pub no-foreign : Never 11 (y .entries)
   pub no-straggler : Never 33 (y .entries)
 
@@ -82,9 +83,10 @@ sound-on a y k i =
     record {
       shaped = shape-kept (y .now) (y .counters) k (i .shaped);
       tallied = tells y (i .shaped) (i .tallied) k;
-      paced = pace-kept y k (i .shaped) (i .tallied .kept .hand) (i .paced);
+      paced = pace-kept (L a) y k (i .shaped) (i .tallied .kept .hand) (i .paced);
       fair = fair-kept y k (i .shaped) (i .fair);
-      fixed = fixed-kept (L a) (E a) (y .now) (y .counters) k (i .fixed);
+      fixed = fixed-kept (a .lookahead) (E a) (y .now) (y .counters) k (i .fixed);
+      least = i .least;
       no-foreign = (p .no-foreign, i .no-foreign);
       no-straggler = (p .no-straggler, i .no-straggler);
     }
@@ -95,7 +97,7 @@ sound a y [] i = i
 sound a y (k ∷ ks) i = sound a (appendCall y k (rule (y .now) (y .counters) k)) ks (sound-on a y k i)
 
 -- What build makes.
-fair-built : (a : Setup) → All (λ (e : Edge). e .bound ≡ a .lookahead) (built a .edges) → FairIn (emptyHistory a)
+fair-built : (a : Setup) → All AtLookahead (built a .edges) → FairIn (emptyHistory a)
 unfolding FairIn given built upTo
 fair-built a b =
     let hs = noughts 0 (a .n) in
@@ -104,8 +106,8 @@ fair-built a b =
       above = tt;
       floor = tt;
       held = tt;
-      reach = all-map (λ (e : Edge). e .bound ≡ a .lookahead) (Reach hs (a .lookahead)) (λ e x. omega arith) (built a .edges) b;
-      capped = all-map (λ (e : Edge). e .bound ≡ a .lookahead) (Capped hs) (λ e x. omega (arith, noughts-at 0 (a .n) (e .destination))) (built a .edges) b;
+      reach = all-map AtLookahead (Reach hs) (λ e x. omega arith) (built a .edges) b;
+      capped = all-map AtLookahead (Capped hs) (λ e x. omega (arith, noughts-at 0 (a .n) (e .destination))) (built a .edges) b;
       under = tt;
       fresh = λ _. (refl, noughts-at 0 (a .n));
       opened = λ e. absurd (true≢false (sym e));
@@ -127,14 +129,15 @@ sound-built a c e =
       paced = paced-fresh a m;
       fair = fair-built a (m .bounds);
       fixed = fixed-built a m;
+      least = m .least;
       no-foreign = tt;
       no-straggler = tt;
     }
   where
-    paced-fresh : (a : Setup) → Makes a → Paced (emptyHistory a)
-    paced-fresh a m = unfold built in paced-built (built a) _ (m .shaped) refl (m .bounds)
+    paced-fresh : (a : Setup) → Makes a → Paced (L a) (emptyHistory a)
+    paced-fresh a m = unfold built in paced-built (L a) (built a) _ refl (m .bounds) (m .looks)
 
-    fixed-built : (a : Setup) → Makes a → Fixed (L a) (E a) (built a)
+    fixed-built : (a : Setup) → Makes a → Fixed (a .lookahead) (E a) (built a)
     fixed-built a m = record { lookahead = unfold built in refl; edges = m .edges }
 
 -- Reads of a state that 11 lets pass.
@@ -152,8 +155,8 @@ demanded a y i =
       order = λ p. in-order p es (unfold FairIn in i .fair .order);
       conserved = λ h. omega (arith, i .tallied .kept .sum h, ap length (i .tallied .kept .hand));
       pending = read-answers (y .now) (y .counters) (Pending (length (y .now .pending))) f;
-      few-rounds = rw (i .fixed .lookahead) at (few-rounds y (i .shaped) (i .paced));
-      few-null-messages = rw (i .fixed .lookahead, i .fixed .edges) at (few-null-messages y (i .shaped) (i .paced));
+      few-rounds = few-rounds (L a) y (i .least) (i .paced);
+      few-null-messages = rw (i .fixed .edges) at (few-null-messages (L a) y (i .least) (i .paced));
       counters = read-answers (y .now) (y .counters) (Counted (y .counters) (y .now .used)) f
           ∙ (λ t. Read (Counted (record { handled = k .handled t; emitted = k .emitted t; remote = k .remote t; rounds = k .rounds t; «null_messages» = k .«null_messages» t; «worker_count» = k .«worker_count» t }) (i .tallied .kept .used t)));
       gvt = read-answers (y .now) (y .counters) _ f;

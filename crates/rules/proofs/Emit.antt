@@ -1,7 +1,7 @@
 -- The emission lemma: a message that passed 28 to 32 is in time, without check 33.
-use mathlib.Core.Path.{_≡_, sym, ap, _∙_}
-use mathlib.Core.Bool.{true, false}
-use mathlib.Core.List.{List}
+use mathlib.Core.Path.{_≡_, refl, sym, ap, _∙_}
+use mathlib.Core.Bool.{Bool, true, false, _||_, true≢false}
+use mathlib.Core.List.{List, [], _∷_}
 use Prim.Native.Nat.{ℕ, _+_, _≤_, _<_}
 use native.Mathlib.Omega.{arith}
 use lib.Dec.{eqb}
@@ -9,11 +9,12 @@ use lib.ListN.{getD}
 use borrow.Author.Tests.{eqb-true, eqb-false, ne-eqb}
 use Rattle.rules.specs.Base.{if_then_else_, any}
 use Rattle.rules.specs.State.{Event, Message, Edge, State}
-use Rattle.rules.specs.Pending.{joins, route}
+use Rattle.rules.specs.Pending.{joins, route, lookaheadAlong}
 use Rattle.rules.specs.HandBack.{minimum}
 use Rattle.rules.proofs.Tests.{by-bool, or-else, and-left, and-right}
-use Rattle.rules.proofs.Lists.{All, all-map, all-both, any-some}
-use Rattle.rules.proofs.Checks.{Routed}
+use Rattle.rules.proofs.Lists.{All, all-map, all-both}
+use Rattle.rules.proofs.Shape.{Ahead}
+use Rattle.rules.proofs.Checks.{along, Routed}
 use Rattle.rules.proofs.Fair.{Reach, Capped, Under, Le, InHand, Fine}
 
 to-itself : (L p t : ℕ) (m : Message) → eqb (m .destination) p ≡ true → minimum L p t m ≡ t
@@ -28,24 +29,36 @@ along-edge : (es : List Edge) (p d : ℕ) → (d ≡ p → ⊥) → route es p d
 unfolding route
 along-edge es p d n h = or-else (eqb p d) (any (joins p d) es) (ne-eqb p d (λ e. n (sym e))) h
 
+-- The edge whose lookahead counts is one that leads there.
+along-some : {C : Type 0} (a d : ℕ) (es : List Edge) → any (joins a d) es ≡ true → All (λ (k : Edge). joins a d k ≡ true → k .lookahead ≡ lookaheadAlong es a d → C) es → C
+unfolding any lookaheadAlong if_then_else_
+along-some a d [] h i = absurd (true≢false (sym h))
+along-some {C} a d (e ∷ es) h i = go (joins a d e) refl h (i .0) (i .1) (along-some a d es)
+  where
+    go : (t : Bool) → joins a d e ≡ t → t || any (joins a d) es ≡ true → (joins a d e ≡ true → e .lookahead ≡ (if t then e .lookahead else lookaheadAlong es a d) → C)
+        → All (λ (k : Edge). joins a d k ≡ true → k .lookahead ≡ (if t then e .lookahead else lookaheadAlong es a d) → C) es
+        → (any (joins a d) es ≡ true → All (λ (k : Edge). joins a d k ≡ true → k .lookahead ≡ lookaheadAlong es a d → C) es → C) → C
+    go true j h f r ih = f j refl
+    go false j h f r ih = ih h r
+
 -- Along an edge: at or above its bound.
-over-bound : (s : State) (b : Event) (m : Message) → All (Reach (s .horizons) (s .lookahead)) (s .edges) → getD (s .horizons) (b .destination) 0 ≤ b .tick → any (joins (b .destination) (m .destination)) (s .edges) ≡ true → b .tick + s .lookahead ≤ m .tick
+over-bound : (s : State) (b : Event) (m : Message) → All (Reach (s .horizons)) (s .edges) → getD (s .horizons) (b .destination) 0 ≤ b .tick → any (joins (b .destination) (m .destination)) (s .edges) ≡ true → b .tick + along s (b .destination) m ≤ m .tick
     → {C : Type 0} → All (λ (k : Edge). k .destination ≡ m .destination → k .bound ≤ m .tick → C) (s .edges) → C
 over-bound s b m r f e l {C} i =
-    any-some (joins (b .destination) (m .destination)) (s .edges) e
-    (all-map (λ k. Reach (s .horizons) (s .lookahead) k × (k .destination ≡ m .destination → k .bound ≤ m .tick → C)) (λ k. joins (b .destination) (m .destination) k ≡ true → C)
-    (λ k v j.
+    along-some (b .destination) (m .destination) (s .edges) e
+    (all-map (λ k. Reach (s .horizons) k × (k .destination ≡ m .destination → k .bound ≤ m .tick → C)) (λ k. joins (b .destination) (m .destination) k ≡ true → k .lookahead ≡ along s (b .destination) m → C)
+    (λ k v j q.
     let x : k .source ≡ b .destination = eqb-true (k .source) (b .destination) (and-left _ (eqb (k .destination) (m .destination)) j) in
     let z : getD (s .horizons) (k .source) 0 ≡ getD (s .horizons) (b .destination) 0 = ap (λ (a : ℕ). getD (s .horizons) a 0) x in
     v .1 (eqb-true (k .destination) (m .destination) (and-right (eqb (k .source) (b .destination)) _ j)) (omega (arith, v .0)))
-    (s .edges) (all-both (Reach (s .horizons) (s .lookahead)) (λ k. k .destination ≡ m .destination → k .bound ≤ m .tick → C) (s .edges) r i))
+    (s .edges) (all-both (Reach (s .horizons)) (λ k. k .destination ≡ m .destination → k .bound ≤ m .tick → C) (s .edges) r i))
 
-module _ (s : State) (g : List Event) (b : Event) (m : Message) (ahead : 0 < s .lookahead) (reach : All (Reach (s .horizons) (s .lookahead)) (s .edges)) (capped : All (Capped (s .horizons)) (s .edges))
+module _ (s : State) (g : List Event) (b : Event) (m : Message) (ahead : All Ahead (s .edges)) (reach : All (Reach (s .horizons)) (s .edges)) (capped : All (Capped (s .horizons)) (s .edges))
     (under : All (Under (s .edges)) g) (hand : InHand (s .horizons) g b) (r : Routed s (b .destination) (b .tick) m) where
   own-fine : eqb (m .destination) (b .destination) ≡ true → Fine (s .horizons) g (b .destination) (b .tick) m
   own-fine e =
       let d : m .destination ≡ b .destination = eqb-true (m .destination) (b .destination) e in
-      let l : b .tick ≤ m .tick = omega (arith, r .least, to-itself (s .lookahead) (b .destination) (b .tick) m e) in
+      let l : b .tick ≤ m .tick = omega (arith, r .least, to-itself (along s (b .destination) m) (b .destination) (b .tick) m e) in
       let z : getD (s .horizons) (m .destination) 0 ≡ getD (s .horizons) (b .destination) 0 = ap (λ (a : ℕ). getD (s .horizons) a 0) d in
       record {
         floor = omega (arith, hand .floor);
@@ -57,7 +70,7 @@ module _ (s : State) (g : List Event) (b : Event) (m : Message) (ahead : 0 < s .
   other-fine : eqb (m .destination) (b .destination) ≡ false → Fine (s .horizons) g (b .destination) (b .tick) m
   other-fine e =
       let n : (m .destination ≡ b .destination → ⊥) = eqb-false (m .destination) (b .destination) e in
-      let l : b .tick + s .lookahead ≤ m .tick = omega (arith, r .least, to-another (s .lookahead) (b .destination) (b .tick) m e) in
+      let l : b .tick + along s (b .destination) m ≤ m .tick = omega (arith, r .least, to-another (along s (b .destination) m) (b .destination) (b .tick) m e) in
       let k : any (joins (b .destination) (m .destination)) (s .edges) ≡ true = along-edge (s .edges) (b .destination) (m .destination) n (r .route) in
       let far : All (λ (x : Event). x .destination ≡ m .destination → x .tick < m .tick) g =
       all-map (Under (s .edges)) (λ (x : Event). x .destination ≡ m .destination → x .tick < m .tick)
@@ -65,7 +78,7 @@ module _ (s : State) (g : List Event) (b : Event) (m : Message) (ahead : 0 < s .
       record {
         floor = over-bound s b m reach (hand .floor) k l (all-map (Capped (s .horizons)) (λ (f : Edge). f .destination ≡ m .destination → f .bound ≤ m .tick → getD (s .horizons) (m .destination) 0 ≤ m .tick) (λ f v a c. let z : getD (s .horizons) (f .destination) 0 ≡ getD (s .horizons) (m .destination) 0 = ap (λ (q : ℕ). getD (s .horizons) q 0) a in omega (arith, v)) (s .edges) capped);
         last = all-map (λ (x : Event). x .destination ≡ m .destination → x .tick < m .tick) (λ (x : Event). x .destination ≡ m .destination → x .tick ≤ m .tick) (λ x v y. omega (arith, v y)) g far;
-        later = λ _. omega arith;
+        later = λ _. along-some (b .destination) (m .destination) (s .edges) k (all-map Ahead (λ f. joins (b .destination) (m .destination) f ≡ true → f .lookahead ≡ along s (b .destination) m → b .tick < m .tick) (λ f v _ q. omega arith) (s .edges) ahead);
         beyond = λ _. far;
       }
 

@@ -48,18 +48,18 @@ Floor hs e = getD hs (e .destination) 0 ≤ e .tick
 pub floor-raised : (to : ℕ → ℕ) (hs : List ℕ) (q : List Event) → All (λ (e : Event). to (e .destination) ≤ e .tick) q → All (Floor hs) q → All (Floor (raised to 0 hs)) q
 floor-raised to hs q f i = all-map (λ e. (to (e .destination) ≤ e .tick) × Floor hs e) (Floor (raised to 0 hs)) (λ e k. omega (arith, k .0, k .1, raised-le to hs (e .destination))) q (all-both (λ (e : Event). to (e .destination) ≤ e .tick) (Floor hs) q f i)
 
--- b: a bound is at most its source's local horizon and the lookahead.
-abbrev pub Reach : List ℕ → ℕ → Edge → Type 0
-Reach hs L e = e .bound ≤ getD hs (e .source) 0 + L
+-- b: a bound is at most its source's local horizon and the edge's lookahead.
+abbrev pub Reach : List ℕ → Edge → Type 0
+Reach hs e = e .bound ≤ getD hs (e .source) 0 + e .lookahead
 
-pub reach-more : (to : ℕ → ℕ) (hs : List ℕ) (L : ℕ) (es : List Edge) → All (Reach hs L) es → All (Reach (raised to 0 hs) L) es
-reach-more to hs L es i = all-map (Reach hs L) (Reach (raised to 0 hs) L) (λ e r. omega (arith, r, raised-ge to 0 hs (e .source))) es i
+pub reach-more : (to : ℕ → ℕ) (hs : List ℕ) (es : List Edge) → All (Reach hs) es → All (Reach (raised to 0 hs)) es
+reach-more to hs es i = all-map (Reach hs) (Reach (raised to 0 hs)) (λ e r. omega (arith, r, raised-ge to 0 hs (e .source))) es i
 
-pub reach-raised : (s : State) (H : ℕ) (es : List Edge) → H ≤ maxTick → length (s .horizons) ≡ s .n → All (Joined (s .n)) es → All (Reach (s .horizons) (s .lookahead)) es → All (Reach (raised (inputFrontier s H) 0 (s .horizons)) (s .lookahead)) (raisedEdges s H es)
+pub reach-raised : (s : State) (H : ℕ) (es : List Edge) → H ≤ maxTick → length (s .horizons) ≡ s .n → All (Joined (s .n)) es → All (Reach (s .horizons)) es → All (Reach (raised (inputFrontier s H) 0 (s .horizons))) (raisedEdges s H es)
 unfolding raisedEdges
 reach-raised s H [] t l w i = tt
 reach-raised s H (e ∷ es) t l w i = (
-  omega (arith, i .0, raised-ge (inputFrontier s H) 0 (s .horizons) (e .source), raised-at (inputFrontier s H) (s .horizons) (e .source) (omega (arith, w .0 .source, l)), bound-high s H (e .source) t),
+  omega (arith, i .0, raised-ge (inputFrontier s H) 0 (s .horizons) (e .source), raised-at (inputFrontier s H) (s .horizons) (e .source) (omega (arith, w .0 .source, l)), bound-high s H e t),
   reach-raised s H es t l (w .1) (i .1),
 )
 

@@ -25,7 +25,7 @@ use Rattle.rules.proofs.Handed.{given}
 use Rattle.rules.proofs.FairMoves.{Fair, fair-insert, fair-batch, fair-raised, fair-bounds, fair-empty, fair-closed, fair-queued, timely}
 
 abbrev pub FairAt : List Event → State → Type 0
-FairAt g s = Fair g (s .pending) (s .batch) (s .edges) (s .horizons) (s .lookahead) (s .initial) (s .running)
+FairAt g s = Fair g (s .pending) (s .batch) (s .edges) (s .horizons) (s .initial) (s .running)
 
 unfoldable pub FairIn : History → Type 0
 FairIn y = FairAt (given (y .entries)) (y .now)
@@ -50,7 +50,7 @@ module _ (y : History) (w : Shaped (y .now)) (i : FairAt (given (y .entries)) (y
 
   initial-accept : (m : Message) (n : ℕ) → y .now .initial ≡ true → Handing y (AddInitial m) (out Accepted (withPending (y .now) (insert (numbered m (y .now .next)) (y .now .pending)) n) (y .counters))
   unfolding events
-  initial-accept m n o = nothing-handed y (AddInitial m) Accepted _ (y .counters) refl (fair-insert (given (y .entries)) (y .now .pending) (y .now .batch) (y .now .edges) (y .now .horizons) (y .now .lookahead) (y .now .initial) (y .now .running) _ o i)
+  initial-accept m n o = nothing-handed y (AddInitial m) Accepted _ (y .counters) refl (fair-insert (given (y .entries)) (y .now .pending) (y .now .batch) (y .now .edges) (y .now .horizons) (y .now .initial) (y .now .running) _ o i)
 
   begin-accept : (h b : ℕ) → Handing y (Begin h b) (out Accepted (withRun (y .now) h b) (y .counters))
   unfolding events
@@ -58,7 +58,7 @@ module _ (y : History) (w : Shaped (y .now)) (i : FairAt (given (y .entries)) (y
 
   step-batch : (h b : ℕ) → Steps (y .now) h b → Handing y Step (out (Batch (takenAt (y .now) h b .events) (y .now .gvt)) (withBatch (y .now) (takenAt (y .now) h b .events) (takenAt (y .now) h b .left)) (y .counters))
   unfolding Handing FairIn given events upTo
-  step-batch h b k = fair-batch (given (y .entries)) (y .now .pending) (y .now .batch) (y .now .edges) (y .now .horizons) (y .now .inbound) (y .now .lookahead) (suc h) (y .now .n) (b - y .now .used) (y .now .initial) (y .now .running) (below-bounds (y .now) w) (w .queued .order) (k .open-run) i
+  step-batch h b k = fair-batch (given (y .entries)) (y .now .pending) (y .now .batch) (y .now .edges) (y .now .horizons) (y .now .inbound) (suc h) (y .now .n) (b - y .now .used) (y .now .initial) (y .now .running) (below-bounds (y .now) w) (w .queued .order) (k .open-run) i
 
   -- The fronts after an advance, with nothing in hand.
   moved : (h b : ℕ) → Steps (y .now) h b → FairAt (given (y .entries)) (poison (advanced (y .now) h))
@@ -68,14 +68,14 @@ module _ (y : History) (w : Shaped (y .now)) (i : FairAt (given (y .entries)) (y
       let g = given (y .entries) in
       let o : s .initial ≡ false = i .opened (k .open-run) in
       let hs : List ℕ = newHorizons s (suc h) in
-      let one = fair-raised g (s .pending) (s .edges) (s .horizons) (s .inbound) (s .lookahead) (suc h) (s .initial) (s .running) (inputFrontier s (suc h)) (λ _. suc h) (below-bounds s w) (w .queued .order) o (λ p. omega arith) (λ p. omega arith) (fair-empty g (s .pending) (s .batch) (s .edges) (s .horizons) (s .lookahead) (s .initial) (s .running) i) in
-      let two = fair-raised g (s .pending) (s .edges) hs (s .inbound) (s .lookahead) (suc h) (s .initial) (s .running) (refreshTo (s .inbound) (suc h) (s .pending)) (safe (s .inbound) (suc h)) (below-bounds s w) (w .queued .order) o (λ p. omega arith) (λ p. omega arith) one in
+      let one = fair-raised g (s .pending) (s .edges) (s .horizons) (s .inbound) (suc h) (s .initial) (s .running) (inputFrontier s (suc h)) (λ _. suc h) (below-bounds s w) (w .queued .order) o (λ p. omega arith) (λ p. omega arith) (fair-empty g (s .pending) (s .batch) (s .edges) (s .horizons) (s .initial) (s .running) i) in
+      let two = fair-raised g (s .pending) (s .edges) hs (s .inbound) (suc h) (s .initial) (s .running) (refreshTo (s .inbound) (suc h) (s .pending)) (safe (s .inbound) (suc h)) (below-bounds s w) (w .queued .order) o (λ p. omega arith) (λ p. omega arith) one in
       fair-bounds s (suc h) g hs (refreshTo (s .inbound) (suc h) (s .pending)) refl (below-top (s .stored) h b (k .stored) (w .runs .below)) w (i .reach) two
 
   -- The same with the batch as it was, which is empty.
   unmoved-batch : (h b : ℕ) → Steps (y .now) h b → FairAt (given (y .entries)) (advanced (y .now) h)
   unfolding refreshed
-  unmoved-batch h b k = subst (λ (bs : List Event). Fair (given (y .entries)) (y .now .pending) bs (advanced (y .now) h .edges) (advanced (y .now) h .horizons) (y .now .lookahead) (y .now .initial) (y .now .running)) (sym (k .empty)) (moved h b k)
+  unmoved-batch h b k = subst (λ (bs : List Event). Fair (given (y .entries)) (y .now .pending) bs (advanced (y .now) h .edges) (advanced (y .now) h .horizons) (y .now .initial) (y .now .running)) (sym (k .empty)) (moved h b k)
 
   step-cases : StepCases (y .now) (y .counters) (Handing y Step)
   unfolding events
@@ -83,22 +83,22 @@ module _ (y : History) (w : Shaped (y .now)) (i : FairAt (given (y .entries)) (y
     foreign = λ f. not-both f (passes-11 (y .now) w);
     refused = λ r _. stays Step r (y .counters);
     batch = λ h b k _. step-batch h b k;
-    spends = λ h b k. nothing-handed y Step (Refused _) (closed (y .now)) (y .counters) refl (fair-closed (given (y .entries)) (y .now .pending) (y .now .batch) (y .now .edges) (y .now .horizons) (y .now .lookahead) (y .now .initial) (y .now .running) i);
+    spends = λ h b k. nothing-handed y Step (Refused _) (closed (y .now)) (y .counters) refl (fair-closed (given (y .entries)) (y .now .pending) (y .now .batch) (y .now .edges) (y .now .horizons) (y .now .initial) (y .now .running) i);
     rise = λ h b k _. nothing-handed y Step (Advanced _) (advanced (y .now) h) _ refl (unmoved-batch h b (k .steps));
-    finish = λ h b k _ _. nothing-handed y Step (Finished _) (closed (advanced (y .now) h)) (y .counters) refl (unfold refreshed in fair-closed (given (y .entries)) (y .now .pending) (y .now .batch) (advanced (y .now) h .edges) (advanced (y .now) h .horizons) (y .now .lookahead) (y .now .initial) (y .now .running) (unmoved-batch h b (k .steps)));
+    finish = λ h b k _ _. nothing-handed y Step (Finished _) (closed (advanced (y .now) h)) (y .counters) refl (unfold refreshed in fair-closed (given (y .entries)) (y .now .pending) (y .now .batch) (advanced (y .now) h .edges) (advanced (y .now) h .horizons) (y .now .initial) (y .now .running) (unmoved-batch h b (k .steps)));
     last-branch = λ h b k _ _. nothing-handed y Step (Refused _) (poison (advanced (y .now) h)) (y .counters) refl (moved h b (k .steps));
   }
 
   queued-up : (mask : ℕ) (xs : List Emission) (h b : ℕ) → Commits (y .now) mask xs h b → FairAt (given (y .entries)) (handled (y .now) xs)
   queued-up mask xs h b k =
-      fair-queued (given (y .entries)) (y .now .pending) (y .now .batch) (y .now .edges) (y .now .horizons) (y .now .lookahead) (y .now .initial) (y .now .running) (y .now .next) (messages xs)
-      (timely (y .now) (given (y .entries)) mask xs (w .sized .ahead) i (k .reply .formed) (all-front (λ (r : Row). r .test ≡ false) (processRows (y .now) mask xs (y .now .batch)) _ (k .passed))) i
+      fair-queued (given (y .entries)) (y .now .pending) (y .now .batch) (y .now .edges) (y .now .horizons) (y .now .initial) (y .now .running) (y .now .next) (messages xs)
+      (timely (y .now) (given (y .entries)) mask xs (w .wired .ahead) i (k .reply .formed) (all-front (λ (r : Row). r .test ≡ false) (processRows (y .now) mask xs (y .now .batch)) _ (k .passed))) i
 
   refreshed-up : (mask : ℕ) (xs : List Emission) (h b : ℕ) → Commits (y .now) mask xs h b → Shaped (handled (y .now) xs) → FairAt (given (y .entries)) (refreshed (handled (y .now) xs) h (y .now .edges) (y .now .inbound) (y .now .horizons))
   unfolding refreshed refreshTo
   refreshed-up mask xs h b k v =
       let t = handled (y .now) xs in
-      fair-raised (given (y .entries)) (t .pending) (t .edges) (t .horizons) (t .inbound) (t .lookahead) (suc h) (t .initial) (t .running) (refreshTo (t .inbound) (suc h) (t .pending)) (safe (t .inbound) (suc h)) (below-bounds t v) (v .queued .order)
+      fair-raised (given (y .entries)) (t .pending) (t .edges) (t .horizons) (t .inbound) (suc h) (t .initial) (t .running) (refreshTo (t .inbound) (suc h) (t .pending)) (safe (t .inbound) (suc h)) (below-bounds t v) (v .queued .order)
       (i .opened (batch-runs (y .now) w (k .reply .some-batch))) (λ p. omega arith) (λ p. omega arith) (queued-up mask xs h b k)
 
   back-cases : (mask : ℕ) (xs : List Emission) → BackCases (y .now) (y .counters) mask xs (Handing y (HandBack mask xs))
@@ -110,9 +110,9 @@ module _ (y : History) (w : Shaped (y .now)) (i : FairAt (given (y .entries)) (y
         poisoned = λ _. stays k _ (y .counters);
         empty = λ _. stays k _ (y .counters);
         malformed = stays k _ (y .counters);
-        lost = λ _ r _. nothing-handed y k (Refused r) (poison (y .now)) (y .counters) refl (fair-empty (given (y .entries)) (y .now .pending) (y .now .batch) (y .now .edges) (y .now .horizons) (y .now .lookahead) (y .now .initial) (y .now .running) i);
+        lost = λ _ r _. nothing-handed y k (Refused r) (poison (y .now)) (y .counters) refl (fair-empty (given (y .entries)) (y .now .pending) (y .now .batch) (y .now .edges) (y .now .horizons) (y .now .initial) (y .now .running) i);
         no-horizon = λ j u. no-horizon-never (y .now) w (j .some-batch) u;
-        spends = λ h b c. nothing-handed y k (Refused _) (closed (handled (y .now) xs)) _ refl (let t = handled (y .now) xs in fair-closed (given (y .entries)) (t .pending) [] (t .edges) (t .horizons) (t .lookahead) (t .initial) (t .running) (queued-up mask xs h b c));
+        spends = λ h b c. nothing-handed y k (Refused _) (closed (handled (y .now) xs)) _ refl (let t = handled (y .now) xs in fair-closed (given (y .entries)) (t .pending) [] (t .edges) (t .horizons) (t .initial) (t .running) (queued-up mask xs h b c));
         commits = λ h b c. nothing-handed y k (Committed _) _ _ refl (refreshed-up mask xs h b c (shape-handled (y .now) (y .counters) w mask xs h b c));
       }
 

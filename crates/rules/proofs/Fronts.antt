@@ -101,17 +101,17 @@ choose-le T H a = by-test (λ (x : ℕ). x ≤ H) (λ t. omega arith) (λ t. ome
 choose-high : (T H a : ℕ) → H ≤ T → (if ltb T a then H else min H a) ≤ min H a
 choose-high T H a h = by-test (λ (x : ℕ). x ≤ min H a) (λ t. omega (arith, ltb-true T a t)) (λ t. omega arith)
 
-pub bound-low : (s : State) (H p : ℕ) → min H (inputFrontier s H p + s .lookahead) ≤ newBound s H p
+pub bound-low : (s : State) (H : ℕ) (e : Edge) → min H (inputFrontier s H (e .source) + e .lookahead) ≤ newBound s H e
 unfolding newBound
-bound-low s H p = choose-low maxTick H (inputFrontier s H p + s .lookahead)
+bound-low s H e = choose-low maxTick H (inputFrontier s H (e .source) + e .lookahead)
 
-pub bound-le : (s : State) (H p : ℕ) → newBound s H p ≤ H
+pub bound-le : (s : State) (H : ℕ) (e : Edge) → newBound s H e ≤ H
 unfolding newBound
-bound-le s H p = choose-le maxTick H (inputFrontier s H p + s .lookahead)
+bound-le s H e = choose-le maxTick H (inputFrontier s H (e .source) + e .lookahead)
 
-pub bound-high : (s : State) (H p : ℕ) → H ≤ maxTick → newBound s H p ≤ min H (inputFrontier s H p + s .lookahead)
+pub bound-high : (s : State) (H : ℕ) (e : Edge) → H ≤ maxTick → newBound s H e ≤ min H (inputFrontier s H (e .source) + e .lookahead)
 unfolding newBound
-bound-high s H p h = choose-high maxTick H (inputFrontier s H p + s .lookahead) h
+bound-high s H e h = choose-high maxTick H (inputFrontier s H (e .source) + e .lookahead) h
 
 -- Bounds
 
@@ -127,21 +127,30 @@ one-zero a b = by-test (λ (x : ℕ). x ≡ 0 → b ≤ a) (λ t h. absurd (omeg
 one-none : (a b : ℕ) → b ≤ a → oneIf (ltb a b) ≡ 0
 one-none a b h = by-test (λ (x : ℕ). x ≡ 0) (λ t. absurd (omega (arith, ltb-true a b t))) (λ t. refl)
 
--- Where every process's input frontier is K or beyond, each bound rises to K + L or to H.
-module _ (s : State) (H K : ℕ) (to : (p : ℕ) → p < s .n → K ≤ inputFrontier s H p) where
-  pub low-raised : (es : List Edge) (c : ℕ) → All (Joined (s .n)) es → min c (min H (K + s .lookahead)) ≤ lowest (raisedEdges s H es) c
+-- An edge's lookahead is L or more.
+abbrev pub LooksFrom : ℕ → Edge → Type 0
+LooksFrom L e = L ≤ e .lookahead
+
+pub looks-raised : (s : State) (H L : ℕ) (es : List Edge) → All (LooksFrom L) es → All (LooksFrom L) (raisedEdges s H es)
+unfolding raisedEdges
+looks-raised s H L [] i = tt
+looks-raised s H L (e ∷ es) i = (i .0, looks-raised s H L es (i .1))
+
+-- Where every process's input frontier is K or beyond, and every edge's lookahead L or more, each bound rises to K + L or to H.
+module _ (s : State) (H K L : ℕ) (to : (p : ℕ) → p < s .n → K ≤ inputFrontier s H p) where
+  pub low-raised : (es : List Edge) (c : ℕ) → All (Joined (s .n)) es → All (LooksFrom L) es → min c (min H (K + L)) ≤ lowest (raisedEdges s H es) c
   unfolding raisedEdges lowest
-  low-raised [] c i = omega arith
-  low-raised (e ∷ es) c i = omega (arith, low-raised es c (i .1), to (e .source) (i .0 .source), bound-low s H (e .source))
+  low-raised [] c i j = omega arith
+  low-raised (e ∷ es) c i j = omega (arith, low-raised es c (i .1) (j .1), j .0, to (e .source) (i .0 .source), bound-low s H e)
 
   -- No bound rose: each was there already.
-  pub low-unraised : (es : List Edge) (c : ℕ) → All (Joined (s .n)) es → countRaised es (raisedEdges s H es) ≡ 0 → min c (min H (K + s .lookahead)) ≤ lowest es c
+  pub low-unraised : (es : List Edge) (c : ℕ) → All (Joined (s .n)) es → All (LooksFrom L) es → countRaised es (raisedEdges s H es) ≡ 0 → min c (min H (K + L)) ≤ lowest es c
   unfolding raisedEdges lowest countRaised
-  low-unraised [] c i h = omega arith
-  low-unraised (e ∷ es) c i h =
-      let x = newBound s H (e .source) in
+  low-unraised [] c i j h = omega arith
+  low-unraised (e ∷ es) c i j h =
+      let x = newBound s H e in
       let z : oneIf (ltb (e .bound) (max (e .bound) x)) ≡ 0 = omega arith in
-      omega (arith, low-unraised es c (i .1) (omega arith), to (e .source) (i .0 .source), bound-low s H (e .source), one-zero (e .bound) (max (e .bound) x) z)
+      omega (arith, low-unraised es c (i .1) (j .1) (omega arith), j .0, to (e .source) (i .0 .source), bound-low s H e, one-zero (e .bound) (max (e .bound) x) z)
 
 pub low-grows : (s : State) (H : ℕ) (es : List Edge) (c : ℕ) → lowest es c ≤ lowest (raisedEdges s H es) c
 unfolding raisedEdges lowest
@@ -151,13 +160,13 @@ low-grows s H (e ∷ es) c = omega (arith, low-grows s H es c)
 pub count-le : (s : State) (H : ℕ) (es : List Edge) → countRaised es (raisedEdges s H es) ≤ length es
 unfolding raisedEdges countRaised
 count-le s H [] = omega arith
-count-le s H (e ∷ es) = omega (arith, count-le s H es, one-le (e .bound) (max (e .bound) (newBound s H (e .source))))
+count-le s H (e ∷ es) = omega (arith, count-le s H es, one-le (e .bound) (max (e .bound) (newBound s H e)))
 
 -- All bounds are at H: none rises.
 pub count-none : (s : State) (H c : ℕ) (es : List Edge) → H ≤ lowest es c → countRaised es (raisedEdges s H es) ≡ 0
 unfolding raisedEdges countRaised lowest
 count-none s H c [] h = refl
-count-none s H c (e ∷ es) h = omega (arith, count-none s H c es (omega arith), one-none (e .bound) (max (e .bound) (newBound s H (e .source))) (omega (arith, bound-le s H (e .source))))
+count-none s H c (e ∷ es) h = omega (arith, count-none s H c es (omega arith), one-none (e .bound) (max (e .bound) (newBound s H e)) (omega (arith, bound-le s H e)))
 
 pub length-edges : (s : State) (H : ℕ) (es : List Edge) → length (raisedEdges s H es) ≡ length es
 unfolding raisedEdges

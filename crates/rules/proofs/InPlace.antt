@@ -8,7 +8,7 @@ use lib.Dec.{ltb}
 use lib.ListN.{length}
 use borrow.Author.Tests.{ltb-true, ltb-false, lt-ltb, le-ltb}
 use Rattle.rules.specs.Base.{if_then_else_, some, upFrom, upTo}
-use Rattle.rules.specs.State.{Edge, State, Counters, zeros}
+use Rattle.rules.specs.State.{Edge, withBound, State, Counters, zeros}
 use Rattle.rules.specs.Rows.{Out}
 use Rattle.rules.specs.Foreign.{foreign}
 use Rattle.rules.specs.Refresh.{refreshed}
@@ -24,7 +24,7 @@ unfolding nthEdge
 nth-behind [] e es = refl
 nth-behind (d ∷ ds) e es = nth-behind ds e es
 
-set-behind : (done : List Edge) (e : Edge) (es : List Edge) (b : ℕ) → setBound (done ++ (e ∷ es)) (length done) b ≡ done ++ (record { source = e .source; destination = e .destination; bound = b } ∷ es)
+set-behind : (done : List Edge) (e : Edge) (es : List Edge) (b : ℕ) → setBound (done ++ (e ∷ es)) (length done) b ≡ done ++ (withBound e b ∷ es)
 unfolding setBound
 set-behind [] e es b = refl
 set-behind (d ∷ ds) e es b = ap (λ (l : List Edge). d ∷ l) (set-behind ds e es b)
@@ -42,12 +42,12 @@ abbrev reached : State → List Edge → List Edge → ℕ → Raising
 reached s done es k = record { now = withEdges s (done ++ es); raised = k }
 
 -- What a bound rises to is found by the record, whatever is written.
-bound-found : (s : State) (es : List Edge) (H p : ℕ) → newBound (withEdges s es) H p ≡ newBound s H p
+bound-found : (s : State) (es : List Edge) (H : ℕ) (e : Edge) → newBound (withEdges s es) H e ≡ newBound s H e
 unfolding newBound inputFrontier
-bound-found s es H p = refl
+bound-found s es H e = refl
 
 abbrev lifted : State → ℕ → Edge → Edge
-lifted s H e = record { source = e .source; destination = e .destination; bound = max (e .bound) (newBound s H (e .source)) }
+lifted s H e = withBound e (max (e .bound) (newBound s H e))
 
 abbrev rise : State → ℕ → Edge → ℕ
 rise s H e = if ltb (e .bound) (lifted s H e .bound) then 1 else 0
@@ -63,26 +63,26 @@ none-if k t e = rw e (omega arith)
 -- One edge: its bound is written, or stays.
 module _ (s : State) (H : ℕ) (done : List Edge) (e : Edge) (es : List Edge) (k : ℕ) where
   abbrev b : ℕ
-  b = newBound s H (e .source)
+  b = newBound s H e
 
-  rises : ltb (e .bound) b ≡ true → reached s done (record { source = e .source; destination = e .destination; bound = b } ∷ es) (suc k) ≡ reached s done (lifted s H e ∷ es) (k + rise s H e)
+  rises : ltb (e .bound) b ≡ true → reached s done (withBound e b ∷ es) (suc k) ≡ reached s done (lifted s H e ∷ es) (k + rise s H e)
   rises t =
       let h : e .bound < b = ltb-true (e .bound) b t in
       let to : b ≡ max (e .bound) b = omega arith in
       let up : suc k ≡ k + rise s H e = one-if k _ (lt-ltb (e .bound) (max (e .bound) b) (omega arith)) in
-      λ j. reached s done (record { source = e .source; destination = e .destination; bound = to j } ∷ es) (up j)
+      λ j. reached s done (withBound e (to j) ∷ es) (up j)
 
   stays : ltb (e .bound) b ≡ false → reached s done (e ∷ es) k ≡ reached s done (lifted s H e ∷ es) (k + rise s H e)
   stays t =
       let h : b ≤ e .bound = ltb-false (e .bound) b t in
       let to : e .bound ≡ max (e .bound) b = omega arith in
       let up : k ≡ k + rise s H e = none-if k _ (le-ltb (e .bound) (max (e .bound) b) (omega arith)) in
-      λ j. reached s done (record { source = e .source; destination = e .destination; bound = to j } ∷ es) (up j)
+      λ j. reached s done (withBound e (to j) ∷ es) (up j)
 
 raised-one : (s : State) (H : ℕ) (done : List Edge) (e : Edge) (es : List Edge) (k : ℕ) → raiseBoundAt H (reached s done (e ∷ es) k) (length done) ≡ reached s done (lifted s H e ∷ es) (k + rise s H e)
 unfolding raiseBoundAt raiseBound
 raised-one s H done e es k =
-    rw (nth-behind done e es, set-behind done e es (newBound (withEdges s (done ++ (e ∷ es))) H (e .source)), bound-found s (done ++ (e ∷ es)) H (e .source))
+    rw (nth-behind done e es, set-behind done e es (newBound (withEdges s (done ++ (e ∷ es))) H e), bound-found s (done ++ (e ∷ es)) H e)
     (by-test (λ (r : Raising). r ≡ reached s done (lifted s H e ∷ es) (k + rise s H e)) (rises s H done e es k) (stays s H done e es k))
 
 -- All that are left.

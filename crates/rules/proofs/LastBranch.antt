@@ -69,7 +69,7 @@ first-least (e ∷ es) d h =
 -- Where no bound rose at an advance, all were at H; then everybody's input frontier is H, and every first event is there or beyond.
 module _ (s : State) (h b : ℕ) (i : Shaped s) (a : Advances s h b) where
   pub bounds-high : (c : ℕ) → suc h ≤ c → nullMessagesOf s (suc h) ≡ 0 → suc h ≤ lowest (s .edges) c
-  bounds-high c l z = omega (arith, i .sized .ahead, low-unraised s (suc h) (min (suc h) (lowest (s .edges) c)) (frontier-low s h b c a) (s .edges) c (i .wired .joined) z)
+  bounds-high c l z = omega (arith, low-unraised s (suc h) (min (suc h) (lowest (s .edges) c)) 1 (frontier-low s h b c a) (s .edges) c (i .wired .joined) (i .wired .ahead) z)
 
   pub frontiers-high : nullMessagesOf s (suc h) ≡ 0 → (p : ℕ) → p < s .n → suc h ≤ inputFrontier s (suc h) p
   frontiers-high z p q = omega (arith, frontier-low s h b (suc h) a p q, bounds-high (suc h) (omega arith) z)

@@ -1,6 +1,7 @@
 -- Computed cases: document 01's rehearsals, what else notices its slips, and demand 3's numbers.
 pub mod Rehearsals
 pub mod Slips
+pub mod Lookaheads
 pub mod Counting
 -- Tools: tests, lists, tables of refusals, and what each call can do.
 pub mod Tests

@@ -21,8 +21,8 @@ use Rattle.rules.proofs.Tests.{by-test, not-both}
 use Rattle.rules.proofs.Lists.{All}
 use Rattle.rules.proofs.Table.{Passed, Firsts, by-firsts, firsts-append}
 use Rattle.rules.proofs.Cases.{Plain, by-initial, by-begin, by-step, by-back}
-use Rattle.rules.proofs.Shape.{Shaped, passes-11}
-use Rattle.rules.proofs.Checks.{Routed, routed}
+use Rattle.rules.proofs.Shape.{Ahead, Shaped, passes-11}
+use Rattle.rules.proofs.Checks.{along, Routed, routed}
 use Rattle.rules.proofs.Fair.{InHand}
 use Rattle.rules.proofs.Emit.{fine}
 use Rattle.rules.proofs.FairCalls.{FairAt}
@@ -84,11 +84,11 @@ module _ (s : State) (c : Counters) (w : Shaped s) where
   })
 
 -- 33: behind 28 to 32 of an emission, its straggler row never decides.
-module _ (s : State) (g : List Event) (ahead : 0 < s .lookahead) (i : FairAt g s) where
+module _ (s : State) (g : List Event) (ahead : All Ahead (s .edges)) (i : FairAt g s) where
   Mild : Refusal → Type 0
   Mild r = eqb (refusalNumber r) 33 ≡ false
 
-  in-time : (b : Event) (x : Emission) → InHand (s .horizons) g b → x .emitter ≡ b .destination → Passed (messageRows (s .n) (route (s .edges)) (s .lookahead) (x .emitter) (b .tick) (x .message)) → ltb (x .message .tick) (getD (s .horizons) (x .message .destination) 0) ≡ true → ⊥
+  in-time : (b : Event) (x : Emission) → InHand (s .horizons) g b → x .emitter ≡ b .destination → Passed (messageRows (s .n) (route (s .edges)) (along s (x .emitter) (x .message)) (x .emitter) (b .tick) (x .message)) → ltb (x .message .tick) (getD (s .horizons) (x .message .destination) 0) ≡ true → ⊥
   in-time b x h e p t =
       let r : Routed s (b .destination) (b .tick) (x .message) = subst (λ (a : ℕ). Routed s a (b .tick) (x .message)) e (routed s (x .emitter) (b .tick) (x .message) p) in
       let f = fine s g b (x .message) ahead (i .reach) (i .capped) (i .under) h r in
@@ -149,4 +149,4 @@ unfolding rule
 proper s c g (AddInitial m) w i = proper-initial s c w m
 proper s c g (Begin h b) w i = proper-begin s c w h b
 proper s c g Step w i = proper-step s c w
-proper s c g (HandBack mask xs) w i = record { no-foreign = back-no-foreign s c w mask xs; no-straggler = back-no-straggler s g (w .sized .ahead) i c mask xs }
+proper s c g (HandBack mask xs) w i = record { no-foreign = back-no-foreign s c w mask xs; no-straggler = back-no-straggler s g (w .wired .ahead) i c mask xs }

@@ -13,8 +13,7 @@ use Rattle.rules.specs.State.{Edge, Stored, unset, stored, State, Counte
 use Rattle.rules.specs.History.{Entry, History, isAdvanced, commits, R, H, handled, rounds, nullMessages}
 use Rattle.rules.proofs.Tests.{not-both}
 use Rattle.rules.proofs.Lists.{All}
-use Rattle.rules.proofs.Shape.{Shaped}
-use Rattle.rules.proofs.Fronts.{lowest, low-cap}
+use Rattle.rules.proofs.Fronts.{lowest, low-cap, LooksFrom}
 
 -- Advanced answers in which a bound rose, and those in which none did.
 unfoldable pub sends : List Entry → ℕ
@@ -58,9 +57,11 @@ pub record Pace (k : Counts) (L : ℕ) (es : List Edge) (hs : List ℕ) (l : Sto
   pub «null_messages» : k .«null_messages» ≤ length es * k .sends
   pub advances : k .advances ≡ k .sends + k .lifts
   pub commits : k .commits ≤ k .handled
+  pub looks : All (LooksFrom L) es
 
-unfoldable pub Paced : History → Type 0
-Paced y = Pace (countsOf (y .entries)) (y .now .lookahead) (y .now .edges) (y .now .horizons) (y .now .stored)
+-- L is at most every edge's lookahead.
+unfoldable pub Paced : ℕ → History → Type 0
+Paced L y = Pace (countsOf (y .entries)) L (y .now .edges) (y .now .horizons) (y .now .stored)
 
 -- The sends are few.
 sends-far : (d S L F E R : ℕ) → 0 < L → (S + 1) * L ≤ F + R * L → F ≤ E → S + 1 ≡ d + R → S ≤ E / L + R
@@ -91,39 +92,43 @@ module _ (k : Counts) (L : ℕ) (es : List Edge) (hs : List ℕ) (l : Stored) (p
   pace-rounds = omega (arith, pace-sends, i .advances, i .lifted, i .commits)
 
 -- Null messages are at most E x (floor(H / L) + R).
-pub few-null-messages : (y : History) → Shaped (y .now) → Paced y → nullMessages (y .entries) ≤ length (y .now .edges) * (H (y .entries) / y .now .lookahead + R (y .entries))
+pub few-null-messages : (L : ℕ) (y : History) → 0 < L → Paced L y → nullMessages (y .entries) ≤ length (y .now .edges) * (H (y .entries) / L + R (y .entries))
 unfolding Paced countsOf
-few-null-messages y s i = pace-null-messages (countsOf (y .entries)) (y .now .lookahead) (y .now .edges) (y .now .horizons) (y .now .stored) (s .sized .ahead) i
+few-null-messages L y l i = pace-null-messages (countsOf (y .entries)) L (y .now .edges) (y .now .horizons) (y .now .stored) l i
 
 -- Rounds are at most handled + floor(H / L) + 2 x R.
-pub few-rounds : (y : History) → Shaped (y .now) → Paced y → rounds (y .entries) ≤ handled (y .entries) + H (y .entries) / y .now .lookahead + 2 * R (y .entries)
+pub few-rounds : (L : ℕ) (y : History) → 0 < L → Paced L y → rounds (y .entries) ≤ handled (y .entries) + H (y .entries) / L + 2 * R (y .entries)
 unfolding Paced countsOf rounds
-few-rounds y s i = pace-rounds (countsOf (y .entries)) (y .now .lookahead) (y .now .edges) (y .now .horizons) (y .now .stored) (s .sized .ahead) i
+few-rounds L y l i = pace-rounds (countsOf (y .entries)) L (y .now .edges) (y .now .horizons) (y .now .stored) l i
 
--- What build makes: every bound is L, nothing is counted.
+-- What build makes: every bound is its edge's lookahead, nothing is counted.
+abbrev pub AtLookahead : Edge → Type 0
+AtLookahead e = e .bound ≡ e .lookahead
+
 all-zero : (hs : List ℕ) → every (leb 0) hs ≡ true
 unfolding every
 all-zero [] = refl
 all-zero (h ∷ hs) = rw (le-leb 0 h (omega arith)) (all-zero hs)
 
-low-start : (L : ℕ) (es : List Edge) (c : ℕ) → L ≤ c → All (λ (e : Edge). e .bound ≡ L) es → L ≤ lowest es c
+low-start : (L : ℕ) (es : List Edge) (c : ℕ) → L ≤ c → All AtLookahead es → All (LooksFrom L) es → L ≤ lowest es c
 unfolding lowest
-low-start L [] c h i = h
-low-start L (e ∷ es) c h i = omega (arith, low-start L es c h (i .1), i .0)
+low-start L [] c h i j = h
+low-start L (e ∷ es) c h i j = omega (arith, low-start L es c h (i .1) (j .1), i .0, j .0)
 
-pace-none : (L : ℕ) (es : List Edge) (hs : List ℕ) (l : Stored) → l ≡ unset → All (λ (e : Edge). e .bound ≡ L) es → Pace (countsOf []) L es hs l
+pace-none : (L : ℕ) (es : List Edge) (hs : List ℕ) (l : Stored) → l ≡ unset → All AtLookahead es → All (LooksFrom L) es → Pace (countsOf []) L es hs l
 unfolding countsOf R H handled count nullMessages sends lifts endOf
-pace-none L es hs l u b = record {
+pace-none L es hs l u b j = record {
   end = sym (ap endOf u);
-  sent = omega (arith, low-start L es (max 0 L) (omega arith) b);
+  sent = omega (arith, low-start L es (max 0 L) (omega arith) b j);
   sending = λ h. absurd (omega arith);
   lifted = omega arith;
   lifting = λ h. not-both (all-zero hs) h;
   «null_messages» = omega arith;
   advances = refl;
   commits = omega arith;
+  looks = j;
 }
 
-pub paced-built : (s : State) (c : Counters) → Shaped s → s .stored ≡ unset → All (λ (e : Edge). e .bound ≡ s .lookahead) (s .edges) → Paced (record { entries = []; now = s; counters = c })
+pub paced-built : (L : ℕ) (s : State) (c : Counters) → s .stored ≡ unset → All AtLookahead (s .edges) → All (LooksFrom L) (s .edges) → Paced L (record { entries = []; now = s; counters = c })
 unfolding Paced
-paced-built s c i u b = pace-none (s .lookahead) (s .edges) (s .horizons) (s .stored) u b
+paced-built L s c u b j = pace-none L (s .edges) (s .horizons) (s .stored) u b j

@@ -11,7 +11,8 @@ use Rattle.rules.specs.Base.{if_then_else_, count, every}
 use Rattle.rules.specs.State.{Edge, Stored, stored}
 use Rattle.rules.specs.History.{Entry, horizon, isAdvanced, begins, commits, R, H, inHand, handled, nullMessages}
 use Rattle.rules.proofs.Tests.{not-both}
-use Rattle.rules.proofs.Fronts.{low-more}
+use Rattle.rules.proofs.Lists.{All}
+use Rattle.rules.proofs.Fronts.{low-more, LooksFrom}
 use Rattle.rules.proofs.Pace.{Counts, countsOf, sends, lifts, endOf, front, Pace}
 
 -- The counts with one call more: whether it is an accepted begin, an Advanced answer, a hand back that commits; its horizon, its raises, how many were in hand.
@@ -80,8 +81,8 @@ pub counts-returned : (e : Entry) (es : List Entry) → Kind e false false true 
 counts-returned e es i = counts-kind e es false false true i ∙ grown-returned (horizon (e .call)) (e .raises) (length (inHand es)) (countsOf es)
 
 -- Fronts that move while the counts stay.
-pub pace-stay : (k : Counts) (L : ℕ) (es fs : List Edge) (hs gs : List ℕ) (l : Stored) → Pace k L es hs l → length fs ≡ length es → front (k .end) L es ≤ front (k .end) L fs → (every (leb (k .end)) hs ≡ true → every (leb (k .end)) gs ≡ true) → Pace k L fs gs l
-pace-stay k L es fs hs gs l i ns up st = record {
+pub pace-stay : (k : Counts) (L : ℕ) (es fs : List Edge) (hs gs : List ℕ) (l : Stored) → Pace k L es hs l → length fs ≡ length es → front (k .end) L es ≤ front (k .end) L fs → (every (leb (k .end)) hs ≡ true → every (leb (k .end)) gs ≡ true) → All (LooksFrom L) fs → Pace k L fs gs l
+pace-stay k L es fs hs gs l i ns up st a = record {
   end = i .end;
   sent = omega (arith, i .sent);
   sending = λ h. omega (arith, i .sending (omega arith));
@@ -90,6 +91,7 @@ pace-stay k L es fs hs gs l i ns up st = record {
   «null_messages» = rw ns (i .«null_messages»);
   advances = i .advances;
   commits = i .commits;
+  looks = a;
 }
   where
     stays : (a b : Bool) → (a ≡ true → b ≡ true) → b ≡ false → a ≡ false
@@ -110,6 +112,7 @@ pace-begun k L h b es hs l i up =
       «null_messages» = i .«null_messages»;
       advances = i .advances;
       commits = i .commits;
+      looks = i .looks;
     }
 
 -- Some bound rose: the front was below the end, and rose by the lookahead or to the end.
@@ -126,6 +129,7 @@ pace-sent k L r es fs gs l s rp rl ns grow far j =
       «null_messages» = rw o (omega (arith, j .«null_messages»));
       advances = omega (arith, j .advances);
       commits = j .commits;
+      looks = j .looks;
     }
 
 -- No bound rose: the local horizons did, and are at the end now.
@@ -139,6 +143,7 @@ pace-lift k L fs gs l lifting now j = record {
   «null_messages» = omega (arith, j .«null_messages»);
   advances = omega (arith, j .advances);
   commits = j .commits;
+  looks = j .looks;
 }
 
 -- A hand back that commits handled at least one event.
@@ -152,4 +157,5 @@ pace-returned k L n es hs l p i = record {
   «null_messages» = i .«null_messages»;
   advances = i .advances;
   commits = omega (arith, i .commits);
+  looks = i .looks;
 }

@@ -11,7 +11,7 @@ use Rattle.rules.specs.Base.{upTo, any, anyOf, nonEmpty, rising}
 use Rattle.rules.specs.State.{Event, Edge, Stored, unset, stored, State, maxTick}
 use Rattle.rules.specs.Pending.{before}
 use Rattle.rules.specs.Frontiers.{leastInbound, recorded}
-use Rattle.rules.specs.Foreign.{longPayload, overLimit, unknownIdEdge, unknownIdEvent, unknownId, duplicateOrSelfEdges, horizonIsMax, isUnset, wrongRecord, byProcess, clauses, foreign}
+use Rattle.rules.specs.Foreign.{longPayload, overLimit, withoutLookahead, unknownIdEdge, unknownIdEvent, unknownId, duplicateOrSelfEdges, horizonIsMax, isUnset, wrongRecord, byProcess, clauses, foreign}
 use Rattle.rules.proofs.Tests.{or-left, or-right, or-both, and-other, not-false, not-of-true, not-both}
 use Rattle.rules.proofs.Lists.{All, all-map, any-none, none-any}
 
@@ -26,6 +26,10 @@ pub record Joined (n : ℕ) (e : Edge) : Type 0 where
   pub source : e .source < n
   pub destination : e .destination < n
 
+-- A.4: an edge's lookahead is above 0.
+abbrev pub Ahead : Edge → Type 0
+Ahead e = 0 < e .lookahead
+
 -- The facts, by the parts of the state that they speak of.
 pub record Sized (n lookahead : ℕ) (hs : List ℕ) : Type 0 where
   pub some : 0 < n
@@ -37,6 +41,7 @@ pub record Wired (n : ℕ) (es : List Edge) : Type 0 where
   pub few : length es ≤ 512
   pub joined : All (Joined n) es
   pub once : duplicateOrSelfEdges es ≡ false
+  pub ahead : All Ahead es
 
 pub record Queued (n next : ℕ) (q : List Event) : Type 0 where
   pub few : length q ≤ 512
@@ -87,6 +92,12 @@ unknown-joined n e h = record { source = leb-false n _ (or-left (leb n (e .sourc
 joined-unknown : (n : ℕ) (e : Edge) → Joined n e → unknownIdEdge n e ≡ false
 joined-unknown n e h = or-both (leb n (e .source)) (leb n (e .destination)) (lt-leb n _ (h .source)) (lt-leb n _ (h .destination))
 
+without-ahead : (e : Edge) → withoutLookahead e ≡ false → Ahead e
+without-ahead e h = let z : (e .lookahead ≡ 0 → ⊥) = eqb-false (e .lookahead) 0 h in omega arith
+
+ahead-without : (e : Edge) → Ahead e → withoutLookahead e ≡ false
+ahead-without e h = ne-eqb (e .lookahead) 0 (λ x. omega arith)
+
 -- From a test of every element to a fact of every element, and back.
 told : {A : Type 0} (f : A → Bool) (P : A → Type 0) → ((a : A) → f a ≡ false → P a) → (xs : List A) → any f xs ≡ false → All P xs
 told f P g xs h = all-map (λ x. f x ≡ false) P g xs (any-none f xs h)
@@ -114,9 +125,9 @@ shaped s h =
         some = let x : eqb (s .n) 0 ≡ false = or-left (eqb (s .n) 0) (ltb 64 (s .n)) (c .0) in let z : (s .n ≡ 0 → ⊥) = eqb-false (s .n) 0 x in omega arith;
         few = ltb-false 64 (s .n) (or-right (eqb (s .n) 0) (ltb 64 (s .n)) (c .0));
         ahead = let z : (s .lookahead ≡ 0 → ⊥) = eqb-false (s .lookahead) 0 (c .1 .0) in omega arith;
-        wide = eqb-true (length (s .horizons)) (s .n) (not-false _ (c .1 .1 .1 .1 .1 .1 .1 .1 .1 .1 .1 .1 .0));
+        wide = eqb-true (length (s .horizons)) (s .n) (not-false _ (c .1 .1 .1 .1 .1 .1 .1 .1 .1 .1 .1 .1 .1 .0));
       };
-      wired = record { few = ltb-false 512 _ (l .0); joined = told (unknownIdEdge (s .n)) (Joined (s .n)) (unknown-joined (s .n)) (s .edges) (k .0); once = c .1 .1 .1 .1 .0 };
+      wired = record { few = ltb-false 512 _ (l .0); joined = told (unknownIdEdge (s .n)) (Joined (s .n)) (unknown-joined (s .n)) (s .edges) (k .0); once = c .1 .1 .1 .1 .0; ahead = told withoutLookahead Ahead without-ahead (s .edges) (c .1 .1 .1 .1 .1 .1 .1 .1 .1 .1 .1 .1 .0) };
       queued = record {
         few = ltb-false 512 _ (l .1 .0);
         short = told longPayload Short long-short (s .pending) (l .1 .1 .1 .0);
@@ -132,7 +143,7 @@ shaped s h =
       };
       runs = record { below = c .1 .1 .1 .1 .1 .1 .1 .0; stored = c .1 .1 .1 .1 .1 .1 .1 .1 .0; opened = c .1 .1 .1 .1 .1 .1 .1 .1 .1 .0 };
       recorded = record {
-        wide = eqb-true (length (s .inbound)) (s .n) (not-false _ (c .1 .1 .1 .1 .1 .1 .1 .1 .1 .1 .1 .1 .1 .0));
+        wide = eqb-true (length (s .inbound)) (s .n) (not-false _ (c .1 .1 .1 .1 .1 .1 .1 .1 .1 .1 .1 .1 .1 .1 .0));
         right = told (λ p. not (eqb (recorded (s .inbound) p) (leastInbound (s .edges) p))) (λ p. recorded (s .inbound) p ≡ leastInbound (s .edges) p) (λ p x. eqb-true _ _ (not-false _ x)) (upTo (s .n)) (c .1 .1 .1 .1 .1 .1 .1 .1 .1 .1 .1 .0);
       };
     }
@@ -164,7 +175,10 @@ passes-11 s i =
                           not-of-true _ (i .held .order),
                           (
                             tells (λ p. not (eqb (recorded (s .inbound) p) (leastInbound (s .edges) p))) (λ p. recorded (s .inbound) p ≡ leastInbound (s .edges) p) (λ p x. not-of-true _ (eq-eqb _ _ x)) (upTo (s .n)) (i .recorded .right),
-                            (not-of-true _ (eq-eqb (length (s .horizons)) (s .n) (i .sized .wide)), (not-of-true _ (eq-eqb (length (s .inbound)) (s .n) (i .recorded .wide)), tt)),
+                            (
+                              tells withoutLookahead Ahead ahead-without (s .edges) (i .wired .ahead),
+                              (not-of-true _ (eq-eqb (length (s .horizons)) (s .n) (i .sized .wide)), (not-of-true _ (eq-eqb (length (s .inbound)) (s .n) (i .recorded .wide)), tt)),
+                            ),
                           ),
                         ),
                       ),

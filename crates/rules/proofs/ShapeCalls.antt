@@ -26,7 +26,7 @@ use Rattle.rules.proofs.Recorded.{record-at, recorded-anew}
 use Rattle.rules.proofs.Tally.{length-insert, length-messages, take-shorter}
 use Rattle.rules.proofs.Order.{pairs-rising, sorted, sorted-rises, all-insert, Apart, sorted-insert}
 use Rattle.rules.proofs.Checks.{each-emission}
-use Rattle.rules.proofs.Fronts.{length-edges}
+use Rattle.rules.proofs.Fronts.{length-edges, looks-raised}
 use Rattle.rules.proofs.Take.{take-all, take-sorted, take-few, Ascend, take-rises, upFrom-length}
 
 -- Pending events
@@ -79,7 +79,7 @@ once-raised s H [] = refl
 once-raised s H (e ∷ es) = rw (joins-raised s H (e .source) (e .destination) es, once-raised s H es)
 
 wired-raised : (s : State) (H n : ℕ) (es : List Edge) → Wired n es → Wired n (raisedEdges s H es)
-wired-raised s H n es i = record { few = omega (arith, length-edges s H es, i .few); joined = joined-raised s H n es (i .joined); once = once-raised s H es ∙ i .once }
+wired-raised s H n es i = record { few = omega (arith, length-edges s H es, i .few); joined = joined-raised s H n es (i .joined); once = once-raised s H es ∙ i .once; ahead = looks-raised s H 1 es (i .ahead) }
 
 sized-raised : (n L : ℕ) (hs : List ℕ) (to : ℕ → ℕ) → Sized n L hs → Sized n L (raised to 0 hs)
 sized-raised n L hs to i = record { some = i .some; few = i .few; ahead = i .ahead; wide = length-raised to 0 hs ∙ i .wide }

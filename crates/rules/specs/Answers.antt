@@ -10,7 +10,7 @@ pub record Entity : Type 0 where
   pub index : ℕ
   pub generation : ℕ
 
--- The rows of the table, in its order. Ids, ticks, lookaheads, counts and masks are numbers.
+-- The rows of the table, in its order, and A.4's 40 where build checks it. Ids, ticks, lookaheads, counts and masks are numbers.
 pub data Refusal : Type 0 where
   InvalidPartitionCount : ℕ → Refusal
   InvalidLookahead : Refusal
@@ -22,6 +22,7 @@ pub data Refusal : Type 0 where
   UnknownTopologyDestination : ℕ → ℕ → Refusal
   SelfLoop : ℕ → Refusal
   DuplicateNeighbor : ℕ → ℕ → Refusal
+  InvalidEdgeLookahead : Refusal
   ForeignState : Refusal
   Poisoned : Refusal
   InitialEventsAlreadyClosed : Refusal
@@ -61,6 +62,7 @@ refusalNumber (UnknownTopologySource p) = 7
 refusalNumber (UnknownTopologyDestination a b) = 8
 refusalNumber (SelfLoop p) = 9
 refusalNumber (DuplicateNeighbor a b) = 10
+refusalNumber InvalidEdgeLookahead = 40
 refusalNumber ForeignState = 11
 refusalNumber Poisoned = 12
 refusalNumber InitialEventsAlreadyClosed = 13
@@ -100,6 +102,7 @@ refusalValues (UnknownTopologySource p) = p ∷ []
 refusalValues (UnknownTopologyDestination a b) = a ∷ b ∷ []
 refusalValues (SelfLoop p) = p ∷ []
 refusalValues (DuplicateNeighbor a b) = a ∷ b ∷ []
+refusalValues InvalidEdgeLookahead = []
 refusalValues ForeignState = []
 refusalValues Poisoned = []
 refusalValues InitialEventsAlreadyClosed = []

@@ -1,4 +1,4 @@
--- 11: "A foreign state has ..". One clause for each part of document 01's sentence, in its order, and one for A.2's.
+-- 11: "A foreign state has ..". One clause for each part of document 01's sentence, in its order, and one for A.2's and for A.4's.
 use mathlib.Core.Bool.{Bool, true, false, not, _&&_, _||_}
 use mathlib.Core.List.{List, [], _∷_}
 use Prim.Native.Nat.{ℕ}
@@ -44,6 +44,10 @@ isUnset (stored h b) = false
 unfoldable pub wrongRecord : State → Bool
 wrongRecord s = any (λ p. not (eqb (recorded (s .inbound) p) (leastInbound (s .edges) p))) (upTo (s .n))
 
+-- A.4: "A state with an edge lookahead of 0 is foreign."
+abbrev pub withoutLookahead : Edge → Bool
+withoutLookahead e = eqb (e .lookahead) 0
+
 abbrev pub byProcess : Event → Event → Bool
 byProcess e f = ltb (e .destination) (f .destination)
 
@@ -68,6 +72,7 @@ clauses s =
     -- "or a batch not strictly rising by process"
     ∷ not (rising byProcess (s .batch))
     ∷ wrongRecord s
+    ∷ any withoutLookahead (s .edges)
     -- A state has one local horizon for each process, and one tick of the record. The program's has them by its layout, so the documents need no words for it.
     ∷ not (eqb (length (s .horizons)) (s .n))
     ∷ not (eqb (length (s .inbound)) (s .n))

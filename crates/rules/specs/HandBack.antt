@@ -9,7 +9,7 @@ use Rattle.rules.specs.State.{Message, Event, Stored, unset, stored, Sta
 use Rattle.rules.specs.Answers
 use Rattle.rules.specs.Answers.{Refusal, Committed, Refused}
 use Rattle.rules.specs.Rows.{Row, _⇒_, unless, Out, out, refuse}
-use Rattle.rules.specs.Pending.{queue, route}
+use Rattle.rules.specs.Pending.{queue, route, lookaheadAlong}
 use Rattle.rules.specs.Foreign.{foreign}
 use Rattle.rules.specs.Refresh.{refreshed}
 use Rattle.rules.specs.Step.{spent}
@@ -41,11 +41,11 @@ malformed batch mask xs =
     ∷ any (λ x. ltb maxPayload (length (x .message .payload))) xs
     ∷ [])
 
--- "The minimum tick is the event's tick for an emission to oneself, else that tick + L."
+-- "The minimum tick is the event's tick for an emission to oneself, else that tick + L." A.4: L is that of the edge.
 unfoldable pub minimum : ℕ → ℕ → ℕ → Message → ℕ
 minimum L p t m = if eqb (m .destination) p then t else t + L
 
--- 28 to 32 of the emission m of the process p, whose event has tick t, in a runtime of n processes with the routes given. To oneself the minimum is a tick, so 31 does not hold.
+-- 28 to 32 of the emission m of the process p, whose event has tick t, in a runtime of n processes with the routes given and L, the lookahead of the edge that m goes along. To oneself the minimum is a tick, so 31 does not hold.
 abbrev pub messageRows : ℕ → (ℕ → ℕ → Bool) → ℕ → ℕ → ℕ → Message → List Row
 messageRows n routes L p t m =
     (not (eqb (m .source) p) ⇒ Answers.OutboundSourceMismatch p (m .source))
@@ -63,7 +63,7 @@ stragglerRow s m = ltb (m .tick) (getD (s .horizons) (m .destination) 0) ⇒ Ans
 unfoldable pub emissionRows : State → Event → List Emission → List Row
 emissionRows s e [] = []
 emissionRows s e (x ∷ xs) =
-    if eqb (x .emitter) (e .destination) then (messageRows (s .n) (route (s .edges)) (s .lookahead) (x .emitter) (e .tick) (x .message) ++ (stragglerRow s (x .message) ∷ emissionRows s e xs))
+    if eqb (x .emitter) (e .destination) then (messageRows (s .n) (route (s .edges)) (lookaheadAlong (s .edges) (x .emitter) (x .message .destination)) (x .emitter) (e .tick) (x .message) ++ (stragglerRow s (x .message) ∷ emissionRows s e xs))
     else emissionRows s e xs
 
 -- "process by process in id order 27 and, for its emissions in turn, 28 to 33 (so an earlier process's bad emission comes before a later one's failure)"

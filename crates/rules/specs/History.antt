@@ -8,7 +8,7 @@ use Rattle.rules.specs.Base.{if_then_else_, count}
 use Rattle.rules.specs.State.{Event, State, Counters, zeros}
 use Rattle.rules.specs.Answers.{Answer, Accepted, Batch, Advanced, Finished, Committed, Read, Planned, Refused, number}
 use Rattle.rules.specs.Rows.{Out}
-use Rattle.rules.specs.Build.{Setup, built}
+use Rattle.rules.specs.Build.{Setup, leastLookahead, built}
 use Rattle.rules.specs.Step.{countRaised}
 use Rattle.rules.specs.HandBack.{Emission, isRemote}
 use Rattle.rules.specs.Calls.{Call, AddInitial, Begin, Step, HandBack, rule}
@@ -35,9 +35,9 @@ appendCall y k o = record { entries = entry (y .now) k o ∷ y .entries; now = o
 abbrev pub emptyHistory : Setup → History
 emptyHistory a = record { entries = []; now = built a; counters = zeros }
 
--- "In it L and E are the lookahead and the edges given to build".
+-- "In it L and E are the lookahead and the edges given to build"; A.4: for L "read the least edge lookahead, or the plan's if there is no edge".
 abbrev pub L : Setup → ℕ
-L a = a .lookahead
+L a = leastLookahead (a .lookahead) (a .lookaheads)
 
 abbrev pub E : Setup → ℕ
 E a = length (a .destinations)

@@ -7,7 +7,7 @@ use Prim.Native.Nat.{ℕ, zero, suc}
 use lib.Dec.{ltb}
 use lib.ListN.{length}
 use Rattle.rules.specs.Base.{if_then_else_, Maybe, none, some, upTo}
-use Rattle.rules.specs.State.{Edge, State, Counters, withBounds}
+use Rattle.rules.specs.State.{Edge, withBound, State, Counters, withBounds}
 use Rattle.rules.specs.Rows.{Out}
 use Rattle.rules.specs.Frontiers.{inboundOf}
 use Rattle.rules.specs.Foreign.{foreign}
@@ -22,7 +22,7 @@ nthEdge (e ∷ es) (suc i) = nthEdge es i
 
 unfoldable pub setBound : List Edge → ℕ → ℕ → List Edge
 setBound [] i b = []
-setBound (e ∷ es) zero b = record { source = e .source; destination = e .destination; bound = b } ∷ es
+setBound (e ∷ es) zero b = withBound e b ∷ es
 setBound (e ∷ es) (suc i) b = e ∷ setBound es i b
 
 -- The state with the edges es. All else stays, A.2's record too.
@@ -39,7 +39,7 @@ pub record Raising : Type 0 where
 unfoldable pub raiseBound : ℕ → Raising → ℕ → Maybe Edge → Raising
 raiseBound H r i none = r
 raiseBound H r i (some e) =
-    let b = newBound (r .now) H (e .source) in
+    let b = newBound (r .now) H e in
     if ltb (e .bound) b then record { now = withEdges (r .now) (setBound (r .now .edges) i b); raised = suc (r .raised) }
     else r
 

@@ -14,11 +14,11 @@ use Rattle.rules.specs.Calls.{Call, AddInitial, Begin, Step, HandBack, e
 
 -- "L = 3, edges 0→1 and 1→0"
 unfoldable pub pair : Setup
-pair = record { n = 2; lookahead = 3; ids = 0 ∷ 1 ∷ []; sources = 0 ∷ 1 ∷ []; counts = 1 ∷ 1 ∷ []; destinations = 1 ∷ 0 ∷ [] }
+pair = record { n = 2; lookahead = 3; ids = 0 ∷ 1 ∷ []; sources = 0 ∷ 1 ∷ []; counts = 1 ∷ 1 ∷ []; destinations = 1 ∷ 0 ∷ []; lookaheads = 3 ∷ 3 ∷ [] }
 
 -- "Only edge 0→1": row 1 is empty.
 unfoldable pub one-way : Setup
-one-way = record { n = 2; lookahead = 3; ids = 0 ∷ 1 ∷ []; sources = 0 ∷ 1 ∷ []; counts = 1 ∷ 0 ∷ []; destinations = 1 ∷ [] }
+one-way = record { n = 2; lookahead = 3; ids = 0 ∷ 1 ∷ []; sources = 0 ∷ 1 ∷ []; counts = 1 ∷ 0 ∷ []; destinations = 1 ∷ []; lookaheads = 3 ∷ [] }
 
 -- What build made, if it made something, is carried on with.
 unfoldable pub carryOn : Maybe State → Counters → List Call → List Out

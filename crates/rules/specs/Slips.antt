@@ -41,7 +41,7 @@ after ks = stateAfter (built pair) zeros ks
 
 -- In a run on the edges 0→1 and 1→0, with q pending, the next sequence number k, the budget u and the batch b in hand. Written out, since computing with states that are themselves computed takes too long; `Reached` says that calls lead to them.
 abbrev pub in-run : List Event → ℕ → ℕ → List Event → State
-in-run q k u b = record { n = 2; lookahead = 3; edges = record { source = 0; destination = 1; bound = 3 } ∷ record { source = 1; destination = 0; bound = 3 } ∷ []; pending = q; next = k; horizons = 0 ∷ 0 ∷ []; inbound = 3 ∷ 3 ∷ []; gvt = 0; stored = stored 9 u; used = 0; batch = b; initial = false; running = true; poisoned = false }
+in-run q k u b = record { n = 2; lookahead = 3; edges = record { source = 0; destination = 1; lookahead = 3; bound = 3 } ∷ record { source = 1; destination = 0; lookahead = 3; bound = 3 } ∷ []; pending = q; next = k; horizons = 0 ∷ 0 ∷ []; inbound = 3 ∷ 3 ∷ []; gvt = 0; stored = stored 9 u; used = 0; batch = b; initial = false; running = true; poisoned = false }
 
 -- C3's batch in hand, process 1's event at 2; and that batch lost to a bad emission.
 abbrev pub in-hand : State
@@ -64,10 +64,10 @@ no-budget = in-run (event 0 1 2 0 ∷ []) 1 0 []
 
 -- A.3's chain, the edges 0→1 and 1→2, in its run before the first step; and the bounds that an advance leaves.
 unfoldable pub chain : Setup
-chain = record { n = 3; lookahead = 3; ids = 0 ∷ 1 ∷ 2 ∷ []; sources = 0 ∷ 1 ∷ 2 ∷ []; counts = 1 ∷ 1 ∷ 0 ∷ []; destinations = 1 ∷ 2 ∷ [] }
+chain = record { n = 3; lookahead = 3; ids = 0 ∷ 1 ∷ 2 ∷ []; sources = 0 ∷ 1 ∷ 2 ∷ []; counts = 1 ∷ 1 ∷ 0 ∷ []; destinations = 1 ∷ 2 ∷ []; lookaheads = 3 ∷ 3 ∷ [] }
 
 abbrev pub chain-run : State
-chain-run = record { n = 3; lookahead = 3; edges = record { source = 0; destination = 1; bound = 3 } ∷ record { source = 1; destination = 2; bound = 3 } ∷ []; pending = []; next = 0; horizons = 0 ∷ 0 ∷ 0 ∷ []; inbound = maxTick ∷ 3 ∷ 3 ∷ []; gvt = 0; stored = stored 9 budget; used = 0; batch = []; initial = false; running = true; poisoned = false }
+chain-run = record { n = 3; lookahead = 3; edges = record { source = 0; destination = 1; lookahead = 3; bound = 3 } ∷ record { source = 1; destination = 2; lookahead = 3; bound = 3 } ∷ []; pending = []; next = 0; horizons = 0 ∷ 0 ∷ 0 ∷ []; inbound = maxTick ∷ 3 ∷ 3 ∷ []; gvt = 0; stored = stored 9 budget; used = 0; batch = []; initial = false; running = true; poisoned = false }
 
 abbrev pub boundsLeft : Out → List ℕ
 boundsLeft o = map (λ (e : Edge). e .bound) (o .after .edges)
@@ -96,7 +96,7 @@ wrong-second = withBounds in-hand (in-hand .edges) (3 ∷ 4 ∷ []) (in-hand .ho
 
 -- Edges 0→2, 1→2 and 2→0.
 unfoldable pub two-into-one : Setup
-two-into-one = record { n = 3; lookahead = 3; ids = 0 ∷ 1 ∷ 2 ∷ []; sources = 0 ∷ 1 ∷ 2 ∷ []; counts = 1 ∷ 1 ∷ 1 ∷ []; destinations = 2 ∷ 2 ∷ 0 ∷ [] }
+two-into-one = record { n = 3; lookahead = 3; ids = 0 ∷ 1 ∷ 2 ∷ []; sources = 0 ∷ 1 ∷ 2 ∷ []; counts = 1 ∷ 1 ∷ 1 ∷ []; destinations = 2 ∷ 2 ∷ 0 ∷ []; lookaheads = 3 ∷ 3 ∷ 3 ∷ [] }
 
 -- The process p emits, but names a as the source.
 abbrev pub wrong-source : ℕ → ℕ → ℕ → ℕ → Emission

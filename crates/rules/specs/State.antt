@@ -49,11 +49,16 @@ pub record Event : Type 0 where
 abbrev pub numbered : Message → ℕ → Event
 numbered m k = record { source = m .source; destination = m .destination; tick = m .tick; sequence = k; payload = m .payload }
 
--- "Each edge has a bound".
+-- "Each edge has a bound"; A.4: "Each edge gets its own lookahead".
 pub record Edge : Type 0 where
   pub source : ℕ
   pub destination : ℕ
+  pub lookahead : ℕ
   pub bound : ℕ
+
+-- The edge with the bound b.
+abbrev pub withBound : Edge → ℕ → Edge
+withBound e b = record { source = e .source; destination = e .destination; lookahead = e .lookahead; bound = b }
 
 -- "Handled, emitted and remote (destination is not source)", rounds, null messages, "the worker count". They are lent, so they stand beside the state.
 pub record Counters : Type 0 where

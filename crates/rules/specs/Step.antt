@@ -4,7 +4,7 @@ use mathlib.Core.List.{List, [], _∷_}
 use Prim.Native.Nat.{ℕ, zero, suc, _+_, _-_, min, max}
 use lib.Dec.{leb, ltb}
 use Rattle.rules.specs.Base.{if_then_else_, Maybe, none, some, upTo, every, nonEmpty}
-use Rattle.rules.specs.State.{Event, Edge, Stored, unset, stored, State, Counters, withBatch, closed, poison, saturatingAdd, maxTick}
+use Rattle.rules.specs.State.{Event, Edge, withBound, Stored, unset, stored, State, Counters, withBatch, closed, poison, saturatingAdd, maxTick}
 use Rattle.rules.specs.Answers
 use Rattle.rules.specs.Answers.{Batch, Advanced, Finished, Refused}
 use Rattle.rules.specs.Rows.{Row, _⇒_, unless, Out, out, refuse}
@@ -33,14 +33,16 @@ takeEligible m H (p ∷ ps) room q = takeEligibleAt (eligible m H q p) p q room 
 unfoldable pub inputFrontier : State → ℕ → ℕ → ℕ
 inputFrontier s H p = min (safe (s .inbound) H p) (firstTick (s .pending) p H)
 
--- "each edge bound from s rises to min(H, min(safe(s), first pending tick or H) + L), or to H on overflow."
-unfoldable pub newBound : State → ℕ → ℕ → ℕ
-newBound s H p = if ltb maxTick (inputFrontier s H p + s .lookahead) then H else min H (inputFrontier s H p + s .lookahead)
+-- "each edge bound from s rises to min(H, min(safe(s), first pending tick or H) + L), or to H on overflow." A.4: L is the edge's.
+unfoldable pub newBound : State → ℕ → Edge → ℕ
+newBound s H e =
+    let t = inputFrontier s H (e .source) + e .lookahead in
+    if ltb maxTick t then H else min H t
 
 -- "All read safe as it was before."
 unfoldable pub raisedEdges : State → ℕ → List Edge → List Edge
 raisedEdges s H [] = []
-raisedEdges s H (e ∷ es) = record { source = e .source; destination = e .destination; bound = max (e .bound) (newBound s H (e .source)) } ∷ raisedEdges s H es
+raisedEdges s H (e ∷ es) = withBound e (max (e .bound) (newBound s H e)) ∷ raisedEdges s H es
 
 -- How many bounds of the second list are above those of the first. "Each bound raised is one null message."
 unfoldable pub countRaised : List Edge → List Edge → ℕ

@@ -60,13 +60,13 @@ packed E Q Z B h = record { edges = E; pending = Q; processes = Z; batch = B; he
 
 -- Where 11 lets the state pass.
 module _ (s : Runtime) (passes : foreign (viewOf s) ≡ false) where
-  pub can-look : length (s .edges) ≡ 2048 → 4 * s .head .edges ≤ length (s .edges)
+  pub can-look : length (s .edges) ≡ 3072 → 6 * s .head .edges ≤ length (s .edges)
   can-look l = omega (arith, few-edges (s .head) (s .edges) (s .pending) (s .processes) (s .batch) passes)
 
   pub can-queue : length (s .pending) ≡ 4096 → CanEnqueue (s .head) (s .pending)
   can-queue l = record { pending-words = l; order = in-order (s .head) (s .edges) (s .pending) (s .processes) (s .batch) passes; newest = newest (s .head) (s .edges) (s .pending) (s .processes) (s .batch) passes }
 
-  pub can-lend : length (s .edges) ≡ 2048 → length (s .pending) ≡ 4096 → length (s .processes) ≡ 256 → length (s .batch) ≡ 512 → ValidArrays (s .head) (s .edges) (s .pending) (s .processes) (s .batch)
+  pub can-lend : length (s .edges) ≡ 3072 → length (s .pending) ≡ 4096 → length (s .processes) ≡ 256 → length (s .batch) ≡ 512 → ValidArrays (s .head) (s .edges) (s .pending) (s .processes) (s .batch)
   can-lend k l m n = record { edge-words = k; pending-words = l; process-words = m; batch-words = n; passes = passes }
 
   module _ (c : Counters) where

@@ -11,6 +11,7 @@ use Rattle.state.specs.declared.Header.{Header}
 use Rattle.state.specs.declared.Runtime.{Runtime}
 use Rattle.state.specs.declared.Counters.{Counters}
 use Rattle.state.specs.View.{countersOf}
+use Rattle.build_topology.specs.Lookaheads.{lookaheadsFor}
 use Rattle.build.specs.declared.BuildAnswer.{BuildAnswer}
 use Rattle.build.specs.declared.BuildAnswer.the-variants as P
 use Rattle.build.specs.Checks.{answerOf, ChecksBuild}
@@ -25,15 +26,15 @@ use Rattle.runtime.specs.Builds.{Makes, Builds}
 abbrev zeroed : List ℕ → List ℕ → Header → Runtime
 zeroed edges processes h = record { edges = edges; pending = zeroes 4096; processes = processes; batch = zeroes 512; head = h }
 
-pub empty : (h : Header) → h ≡ emptyHeader → zeroed (zeroes 2048) (zeroes 256) h ≡ emptyRuntime
-empty h e = ap (zeroed (zeroes 2048) (zeroes 256)) e
+pub empty : (h : Header) → h ≡ emptyHeader → zeroed (zeroes 3072) (zeroes 256) h ≡ emptyRuntime
+empty h e = ap (zeroed (zeroes 3072) (zeroes 256)) e
 
-pub made : (n L : ℕ) (sources counts ds w u z : List ℕ) (h : Header) → Initializes n L sources counts ds w u z h → Makes n L sources counts ds (zeroed u z h)
-made n L sources counts ds w u z h l = record { of-ids = λ ids. l .state ids (zeroes 4096) (zeroes 512) }
+pub made : (n L : ℕ) (sources counts ds ws w u z : List ℕ) (h : Header) → Initializes n L sources counts ds ws w u z h → Makes n L sources counts ds ws (zeroed u z h)
+made n L sources counts ds ws w u z h l = record { of-ids = λ ids. l .state ids (zeroes 4096) (zeroes 512) }
 
-module _ (n L : ℕ) (ids sources counts ds : List ℕ) (c : Counters) (r : BuildAnswer) (j : ChecksBuild n L ids sources counts ds r) where
+module _ (n L : ℕ) (ids sources counts ds ws : List ℕ) (c : Counters) (r : BuildAnswer) (j : ChecksBuild n L ids sources counts ds ws r) where
   abbrev a : Setup
-  a = setup n L ids sources counts ds
+  a = setup n L ids sources counts ds (lookaheadsFor ds ws)
 
   answer-is : answerOf r ≡ build a (countersOf c) .answer
   answer-is = j .of-counters (countersOf c)
@@ -42,10 +43,10 @@ module _ (n L : ℕ) (ids sources counts ds : List ℕ) (c : Counters) (r : Buil
     accepts : build a (countersOf c) .answer ≡ Accepted
     accepts = sym answer-is ∙ ap answerOf e
 
-    pub can-make : CanInitialize n L sources counts ds (zeroes 2048) (zeroes 256)
-    can-make = can-initialize n L ids sources counts ds (countersOf c) (zeroes 2048) accepts refl
+    pub can-make : CanInitialize n L sources counts ds ws (zeroes 3072) (zeroes 256)
+    can-make = can-initialize n L ids sources counts ds ws (countersOf c) (zeroes 3072) accepts refl
 
-    pub accepted : (s : Runtime) → Makes n L sources counts ds s → Builds a c (record { answer = r; state = s; counters = record { «processed_events» = 0; «emitted_events» = 0; «remote_events» = 0; rounds = 0; «null_messages» = 0; «worker_count» = 0 } })
+    pub accepted : (s : Runtime) → Makes n L sources counts ds ws s → Builds a c (record { answer = r; state = s; counters = record { «processed_events» = 0; «emitted_events» = 0; «remote_events» = 0; rounds = 0; «null_messages» = 0; «worker_count» = 0 } })
     accepted s m = record {
       answered = answer-is;
       number-is = numbered r _ answer-is;

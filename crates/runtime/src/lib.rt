@@ -19,6 +19,7 @@ ghost use Rattle.rules.specs.Build.{setup};
 ghost use Rattle.rules.specs.Calls.{Call, AddInitial, Begin, Step, HandBack};
 ghost use Rattle.reply_words.specs.Emissions.{emissionsOf};
 ghost use Rattle.state.specs.View.{viewOf, messageOf};
+ghost use Rattle.build_topology.specs.Lookaheads.{lookaheadsFor};
 ghost use Rattle.build.specs.Initialized.{CanInitialize, emptyRuntime};
 ghost use Rattle.runtime.specs.Builds.{Makes, Builds};
 ghost use Rattle.runtime.specs.Executes.{Executes};
@@ -42,7 +43,7 @@ fn empty_runtime() -> Runtime
     ensures { λ r. ⌜ r ≡ emptyRuntime ⌝ }
 {
     Runtime {
-        edges: [0; 2048],
+        edges: [0; 3072],
         pending: [0; 4096],
         processes: [0; 256],
         batch: [0; 512],
@@ -57,11 +58,12 @@ fn make_runtime<'a>(
     sources: &'a [u32],
     counts: &'a [u64],
     destinations: &'a [u32],
+    lookaheads: &'a [u64],
 ) -> Runtime
-    requires { ⌜ CanInitialize n (durationOf lookahead) (now sources) (now counts) (now destinations) (zeroes 2048) (zeroes 256) ⌝ }
-    ensures { λ r. ⌜ Makes n (durationOf lookahead) (now (sources .entry)) (now (counts .entry)) (now (destinations .entry)) r ⌝ }
+    requires { ⌜ CanInitialize n (durationOf lookahead) (now sources) (now counts) (now destinations) (now lookaheads) (zeroes 3072) (zeroes 256) ⌝ }
+    ensures { λ r. ⌜ Makes n (durationOf lookahead) (now (sources .entry)) (now (counts .entry)) (now (destinations .entry)) (now (lookaheads .entry)) r ⌝ }
 {
-    let mut edges = [0u64; 2048];
+    let mut edges = [0u64; 3072];
     let mut processes = [0u64; 256];
     let head = build::initialize(
         n,
@@ -69,6 +71,7 @@ fn make_runtime<'a>(
         sources,
         counts,
         destinations,
+        lookaheads,
         &mut edges,
         &mut processes,
     );
@@ -82,7 +85,8 @@ fn make_runtime<'a>(
 }
 
 // Build takes n, L, the process ids, the rows (their sources, and how many destinations each takes)
-// and the list from which the rows take their destinations in turn.
+// and the lists from which the rows take their destinations and these their lookaheads in turn, two
+// words each, the upper half first.
 pub fn build<'a>(
     n: u64,
     lookahead: SimDuration,
@@ -90,15 +94,16 @@ pub fn build<'a>(
     sources: &'a [u32],
     counts: &'a [u64],
     destinations: &'a [u32],
+    lookaheads: &'a [u64],
     counters: Counters,
 ) -> BuildResult
-    ensures { λ r. ⌜ Builds (setup n (durationOf lookahead) (now (ids .entry)) (now (sources .entry)) (now (counts .entry)) (now (destinations .entry))) counters r ⌝ }
+    ensures { λ r. ⌜ Builds (setup n (durationOf lookahead) (now (ids .entry)) (now (sources .entry)) (now (counts .entry)) (now (destinations .entry)) (lookaheadsFor (now (destinations .entry)) (now (lookaheads .entry)))) counters r ⌝ }
 {
-    let answer = build::check(n, lookahead, ids, sources, counts, destinations);
+    let answer = build::check(n, lookahead, ids, sources, counts, destinations, lookaheads);
     if let BuildAnswer::Accepted = answer {
         return BuildResult {
             answer: answer,
-            state: make_runtime(n, lookahead, sources, counts, destinations),
+            state: make_runtime(n, lookahead, sources, counts, destinations, lookaheads),
             counters: Counters {
                 processed_events: 0,
                 emitted_events: 0,

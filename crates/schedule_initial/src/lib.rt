@@ -36,7 +36,7 @@ fn record_of(m: Message, seq: u64) -> Record
 
 // Row 16: whether a route leads from the message's source to its destination.
 fn has_route(edges: &[u64], count: usize, m: Message) -> bool
-    requires { ⌜ 4 * count ≤ length (now edges) ⌝ }
+    requires { ⌜ 6 * count ≤ length (now edges) ⌝ }
     ensures { λ r. ⌜ r ≡ route (edgesOf count (now (edges .entry))) (lpIdOf (m .source)) (lpIdOf (m .destination)) ⌝ }
 {
     let source = m.source;
@@ -62,7 +62,7 @@ fn queue_refusal(head: Header, m: Message) -> Answer
 
 // Rows 12 to 16, then those of the queue.
 fn refusal(head: Header, edges: &[u64], m: Message) -> Answer
-    requires { ⌜ 4 * head .edges ≤ length (now edges) ⌝ }
+    requires { ⌜ 6 * head .edges ≤ length (now edges) ⌝ }
     ensures { λ r. ⌜ InitialRefusal head (now (edges .entry)) m r ⌝ }
 {
     if head.poisoned {
@@ -103,7 +103,7 @@ fn enqueue(head: Header, pending: &mut [u64], m: Message) -> Header
 
 // The rows; then the queue.
 pub fn add_initial(head: Header, edges: &[u64], pending: &mut [u64], m: Message) -> HeaderResult
-    requires { ⌜ (4 * head .edges ≤ length (now edges)) × CanEnqueue head (now pending) ⌝ }
+    requires { ⌜ (6 * head .edges ≤ length (now edges)) × CanEnqueue head (now pending) ⌝ }
     ensures { λ r. ⌜ AddsInitial head (now (edges .entry)) (now (pending .entry)) m r (now (pending .exit)) ⌝ }
 {
     let answer = refusal(head, edges, m);

@@ -6,6 +6,9 @@ use text_input::Next;
 // A list of more things is taken for something that cannot be decoded.
 const MAX_ITEMS: u64 = 4096;
 
+// So is a build with more words of lookaheads.
+const MAX_LOOKAHEAD_WORDS: u64 = 8192;
+
 // A number, and then so many things of `width` words.
 fn skip_items(width: u64) -> bool {
     let Next::Word(count) = text_input::read_word(STDIN_FILENO) else {
@@ -24,9 +27,22 @@ fn skip_items(width: u64) -> bool {
     true
 }
 
-// Process count and lookahead; ids, rows and destinations.
+// A number of words, and these words.
+fn skip_lookaheads() -> bool {
+    match text_input::read_word(STDIN_FILENO) {
+        Next::Word(count) => count <= MAX_LOOKAHEAD_WORDS
+            && text_input::skip_words(STDIN_FILENO, count),
+        Next::End => false,
+    }
+}
+
+// Process count and lookahead; ids, rows, destinations and their lookaheads.
 pub fn skip_build() -> bool {
-    text_input::skip_words(STDIN_FILENO, 3) && skip_items(1) && skip_items(2) && skip_items(1)
+    text_input::skip_words(STDIN_FILENO, 3)
+        && skip_items(1)
+        && skip_items(2)
+        && skip_items(1)
+        && skip_lookaheads()
 }
 
 // A number of places, of which there may be as many as of other things.

@@ -9,7 +9,7 @@ use Rattle.state.specs.declared.Header.{Header}
 use Rattle.state.specs.View.{view}
 
 pub record ValidArrays (h : Header) (edges pending processes batch : List ℕ) : Type 0 where
-  pub edge-words : length edges ≡ 2048
+  pub edge-words : length edges ≡ 3072
   pub pending-words : length pending ≡ 4096
   pub process-words : length processes ≡ 256
   pub batch-words : length batch ≡ 512

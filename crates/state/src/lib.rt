@@ -35,7 +35,7 @@ pub struct Header {
 // batch in hand. The table has the local horizons and, from place 64 on, the least inbound bounds. The
 // header comes last: a search for a fact enters only so many records, and has to come to the arrays.
 pub struct Runtime {
-    pub edges: [u64; 2048],
+    pub edges: [u64; 3072],
     pub pending: [u64; 4096],
     pub processes: [u64; 256],
     pub batch: [u64; 512],

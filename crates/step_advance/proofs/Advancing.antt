@@ -7,7 +7,7 @@ use native.Mathlib.Omega.{arith}
 use lib.Dec.{leb, ltb}
 use borrow.Author.Tests.{lt-leb, le-leb}
 use Rattle.types.specs.declared.SimTime.{SimTime}
-use Rattle.types.specs.Value.{ticksOf, durationOf}
+use Rattle.types.specs.Value.{ticksOf}
 use Rattle.words.specs.Words.{horizonsOf, inboundsOf}
 use Rattle.words.proofs.Tab.{tab-cong}
 use Rattle.records.specs.Records.{edgesOf, eventsOf}
@@ -42,7 +42,7 @@ module _ (h : Header) (E Z first Z′ E′ Z″ : List ℕ) (top : SimTime) (r :
     (m : CanAdvance h E Z)
     (et : ticksOf top ≡ suc (ticksOf (h .horizon)))
     (re : Refreshes (h .n) (ticksOf (h .gvt)) (ticksOf top) Z first r Z′)
-    (ra : RaisesBounds (h .edges) (h .n) (durationOf (h .lookahead)) (ticksOf top) first E Z′ E′ Z″ k)
+    (ra : RaisesBounds (h .edges) (h .n) (ticksOf top) first E Z′ E′ Z″ k)
     (up : b ≡ (ltb 0 k || r .rose)) where
   module _ (P B : List ℕ) (q : Queued (h .n) (h .next) (eventsOf (h .pending) P)) (t : FirstTicksOf h P first) where
     s : State
@@ -57,7 +57,7 @@ module _ (h : Header) (E Z first Z′ E′ Z″ : List ℕ) (top : SimTime) (r :
 
     raised : raiseBounds s (suc (ticksOf (h .horizon))) ≡ record { now = withEdges s (edgesOf (h .edges) E′); raised = k }
     unfolding s RaisesInPlace
-    raised = rw (← et) (ra .in-place (view h E P Z B) refl refl (sym (re .record-kept)) firsts)
+    raised = rw (← et) (ra .in-place (view h E P Z B) refl (sym (re .record-kept)) firsts)
 
     -- The local horizons stay while bounds and record are written.
     horizons : horizonsOf (h .n) Z″ ≡ newHorizons s (suc (ticksOf (h .horizon)))

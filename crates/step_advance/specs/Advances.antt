@@ -21,7 +21,7 @@ use Rattle.step_advance.specs.declared.Advanced.{Advanced}
 pub record CanAdvance (h : Header) (edges processes : List ℕ) : Type 0 where
   pub few-processes : h .n ≤ 64
   pub few : h .edges ≤ 512
-  pub edge-words : length edges ≡ 2048
+  pub edge-words : length edges ≡ 3072
   pub process-words : length processes ≡ 256
   pub sources : Sources (h .n) (h .edges) edges
   pub destinations : Destinations 64 (h .edges) edges

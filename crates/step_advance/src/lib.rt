@@ -82,15 +82,7 @@ pub fn advance(
     ensures { λ r. ⌜ Advances head (now (edges .entry)) (now (processes .entry)) (now (first .entry)) r (now (edges .exit)) (now (processes .exit)) ⌝ }
 {
     let refreshed = refresh(head.n, head.gvt, processes, first, top);
-    let raised = frontiers::raise_bounds(
-        edges,
-        head.edges,
-        first,
-        head.n,
-        processes,
-        head.lookahead,
-        top,
-    );
+    let raised = frontiers::raise_bounds(edges, head.edges, first, head.n, processes, top);
     let mut h = head;
     let gvt = refreshed.gvt;
     h.gvt = gvt;

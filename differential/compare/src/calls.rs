@@ -1,17 +1,17 @@
 //! Our program `calls_main` (crates/calls_main) against the original: the lines that it prints for the
-//! builds and the calls of lists, each with everything that document 01 compares after a call.
+//! builds and the calls of lists, each with everything that document 01 compares after a call. Lists whose edges
+//! have different lookaheads are judged by the model alone.
 use crate::lists::{self, Observed};
 use crate::program::{file, first_other, name, printed, shown, BATCH};
 use crate::shrink::shrink;
 use crate::states;
 use crate::store;
-use crate::tally::Tally;
-use crate::work::{parts, shared};
-use generate::Dice;
+use crate::tally::{shown as refusals_shown, Tally};
+use crate::work::{dice, every_other, parts, shared};
 use model::{Answer, Call, Host, Laid, List, Rules, Variant};
 use std::path::Path;
 
-/// A list, and the original's lines for it with their origins.
+/// A list, and its judge's lines for it with their origins.
 struct Expected {
     list: List,
     lines: Vec<String>,
@@ -28,14 +28,16 @@ fn expected(list: List, observed: &Observed) -> Expected {
 }
 
 /// The lists with this number: any calls, calls that a build leads to, and a build, which may be
-/// refused and has a call behind it.
+/// refused and has a call behind it. Of every other number they have different lookaheads.
 fn lists_of(seed: u64, number: u64) -> [List; 3] {
-    let mut dice = Dice::new(seed.wrapping_mul(1 << 32) ^ number);
-    let parts = parts(seed, number);
+    let (number, mixed) = every_other(number);
+    let mut dice = dice(seed.wrapping_mul(1 << 32), number, mixed);
+    let parts = parts(seed, number, mixed);
     let (mut any, mut build) = (parts.list, parts.build);
     any.odd = None;
     build.calls = vec![Call::Step];
-    [any, generate::stored_list(&mut dice, number + 6), build]
+    let stored = generate::stored_list(&mut dice, number + 6, mixed);
+    [any, stored, build]
 }
 
 fn all_lines(all: &[Expected]) -> impl Iterator<Item = &str> {
@@ -62,6 +64,7 @@ fn told(program: &Path, number: u64, all: &[Expected], text: &str) -> Option<Str
         Some((e, here)) => {
             let who = match e.letters.as_bytes().get(here) {
                 Some(b'r') => "the Rust:    ",
+                Some(b'm') => "the model:   ",
                 _ => "document 01: ",
             };
             let smallest = match differs_alone(program, &e.list) {
@@ -93,7 +96,6 @@ fn compare_one(
     for list in words::decode(&bytes) {
         let observed = lists::observe(&list);
         lists::count(&observed, tally);
-        tally.lists += 1;
         all.push(expected(list, &observed));
     }
     match printed(program, &bytes) {
@@ -147,7 +149,7 @@ fn rehearsed(program: &Path) -> bool {
         all.len(),
         name(program),
         if right {
-            "as the Rust answers and as written"
+            "as the Rust answers, or the model where lookaheads differ, and as written"
         } else {
             "NOT as written"
         }
@@ -155,29 +157,49 @@ fn rehearsed(program: &Path) -> bool {
     right
 }
 
-/// Compares the rehearsals, then `count` scenarios of three lists each, and prints what was compared.
-/// Whether there was no difference.
+/// What lists of calls have to meet, from builds and from states given whole: by the original all of 01's
+/// refusals, and by the model those in which lookaheads of edges count.
+const MET_ALONE: [usize; 6] = [5, 10, 11, 31, 32, 40];
+const MANY: u64 = 1_000;
+
+fn unmet(tally: &Tally) -> Vec<String> {
+    let by_rust = (1..37).filter(|number| tally.refusals[*number] == 0);
+    let by_model = MET_ALONE.iter();
+    let by_model = by_model.filter(|number| tally.refusals_alone[**number] == 0);
+    let by_model = by_model.map(|number| format!("{number} of different lookaheads"));
+    by_rust.map(|n| n.to_string()).chain(by_model).collect()
+}
+
+/// Compares the rehearsals, then `count` scenarios of three lists each with the plan's lookahead on every edge and
+/// as many with different ones, and prints what was compared. Whether there was no difference.
 pub fn compare(program: &Path, seed: u64, count: u64) -> bool {
     let rehearsed = rehearsed(program);
-    let files = count.div_ceil(BATCH);
+    let numbers = 2 * count;
+    let files = numbers.div_ceil(BATCH);
     let (mut tally, mut differences) = (Tally::default(), vec![]);
-    for (part, found) in shared(files, |numbers| some_files(program, seed, count, numbers)) {
+    for (part, found) in shared(files, |files| some_files(program, seed, numbers, files)) {
         tally.add(&part);
         differences.extend(found);
     }
     differences.iter().for_each(|told| println!("{told}"));
-    let (lists, by_rust, by_rules) = (tally.lists, tally.by_rust, tally.by_rules);
-    let calls = by_rust + by_rules;
     let name = name(program);
-    println!("calls: our program {name}, seed {seed}: {calls} builds and calls in {lists} lists in {files} files, {by_rust} answered by the Rust, {by_rules} by the documents alone");
+    let lists = tally.judged + tally.alone;
+    println!("calls: our program {name}, seed {seed}: {lists} lists in {files} files");
+    tally.print_judges("calls");
     println!("calls: {} differences", differences.len());
+    let (judged, alone) = (tally.judged, tally.alone);
     let given = states::compare(program, seed, count, &mut tally);
-    let seen = tally.refusals[1..].iter().filter(|seen| **seen > 0).count();
     println!(
-        "calls: refusals seen, from builds and from states given whole, {seen} of 36: {}",
-        tally.refusals()
+        "calls: refusals seen, from builds and from states given whole: judged by the Rust {}; by the model alone {}",
+        refusals_shown(&tally.refusals),
+        refusals_shown(&tally.refusals_alone)
     );
-    rehearsed && differences.is_empty() && given && calls > 0
+    let unmet = unmet(&tally);
+    if !unmet.is_empty() {
+        println!("calls: NOT MET, so not compared: {}", unmet.join(", "));
+    }
+    let met = unmet.is_empty() || count < MANY;
+    rehearsed && differences.is_empty() && given && met && judged > 0 && alone > 0
 }
 
 /// A call's line by a program that follows these rules.
@@ -197,25 +219,28 @@ fn line_by(host: &mut Host, call: &Call) -> String {
     }
 }
 
-/// The text of a program that follows other rules.
-fn text_of(rules: Rules, all: &[Expected]) -> String {
-    let mut text = String::new();
-    for Expected { list, .. } in all {
-        match Host::build(rules, &list.setup) {
-            Err(refused) => text += &words::refused_build_line(&refused),
-            Ok(mut host) => {
-                text += &words::line(&Answer::Accepted, &host.counters, &host.state);
-                let lines = list.calls.iter().map(|call| line_by(&mut host, call));
-                text.extend(lines);
-            }
-        }
-    }
+/// A list's text by a program that follows other rules.
+fn text_of(rules: Rules, list: &List) -> String {
+    let mut host = match Host::build(rules, &list.setup) {
+        Err(refused) => return words::refused_build_line(&refused),
+        Ok(host) => host,
+    };
+    let mut text = words::line(&Answer::Accepted, &host.counters, &host.state);
+    let lines = list.calls.iter().map(|call| line_by(&mut host, call));
+    text.extend(lines);
     text
+}
+
+/// Whether a program that follows these rules is noticed: its text is looked at list by list, up to the first
+/// that is another.
+fn noticed(rules: Rules, all: &[Expected]) -> bool {
+    let other = |e: &Expected| e.lines.concat() != text_of(rules, &e.list);
+    all.iter().any(other)
 }
 
 /// What a list of calls from build does not show: it is met from states given whole alone (states.rs), or,
 /// the owners, printed in no line.
-const UNSEEN: [Variant; 15] = [
+const UNSEEN: [Variant; 18] = [
     Variant::ClosedByStoredHorizon,
     Variant::OneLessWraps,
     Variant::GvtFalls,
@@ -230,17 +255,20 @@ const UNSEEN: [Variant; 15] = [
     Variant::ForeignLowRecordUnseen,
     Variant::ForeignHighRecordUnseen,
     Variant::ForeignRecordByLowerHalf,
+    Variant::ForeignWithoutEdgeLookahead,
+    Variant::ForeignFirstEdgeLookahead,
+    Variant::ForeignLastEdgeLookaheadUnseen,
     Variant::OwnersFromOne,
 ];
 
-/// Wrong texts, each with what is wrong with it, and the right one.
+/// Wrong texts, each with what is wrong with it.
 fn texts(all: &[Expected]) -> Vec<(&'static str, String)> {
-    let right = text_of(Rules::RIGHT, all);
+    let right: String = all_lines(all).collect();
     let last = right
         .trim_end_matches('\n')
         .rfind('\n')
         .map_or(0, |at| at + 1);
-    let mut texts = vec![
+    vec![
         ("a digit is another", right.replacen('3', "4", 1)),
         ("the last line is missing", right[..last].to_string()),
         (
@@ -252,40 +280,35 @@ fn texts(all: &[Expected]) -> Vec<(&'static str, String)> {
             right.trim_end_matches('\n').to_string(),
         ),
         ("nothing is printed", String::new()),
-    ];
-    let wrong = Variant::ALL.iter().filter(|v| !UNSEEN.contains(v));
-    texts.extend(wrong.map(|v| (v.words(), text_of(Rules::of(*v), all))));
-    texts.push(("", right));
-    texts
+    ]
 }
 
-/// Whether each wrong text is noticed, and the right one is not.
+/// Whether each wrong text and each wrong program is noticed, and the right one is not.
 pub fn slips(seed: u64) -> bool {
-    let lists = (0..4 * BATCH).flat_map(|number| lists_of(seed, number));
+    let lists = (0..8 * BATCH).flat_map(|number| lists_of(seed, number));
     let all: Vec<Expected> = lists
         .map(|list| {
             let observed = lists::observe(&list);
             expected(list, &observed)
         })
         .collect();
-    let texts = texts(&all);
-    let mut missed = 0;
-    for (words, text) in &texts {
-        let noticed = first_other(all_lines(&all), text).is_some();
-        let right = words.is_empty();
-        if noticed == right {
-            println!(
-                "calls: slips: {} {words}",
-                if right {
-                    "the right text is refused"
-                } else {
-                    "NOT NOTICED:"
-                }
-            );
-            missed += 1;
-        }
+    let mut wrong: Vec<(&str, bool)> = vec![];
+    for (words, text) in texts(&all) {
+        wrong.push((words, first_other(all_lines(&all), &text).is_some()));
     }
-    let (lines, wrong) = (all_lines(&all).count(), texts.len() - 1);
+    for variant in Variant::ALL.iter().filter(|v| !UNSEEN.contains(v)) {
+        wrong.push((variant.words(), noticed(Rules::of(*variant), &all)));
+    }
+    let mut missed = 0;
+    for (words, _) in wrong.iter().filter(|(_, noticed)| !noticed) {
+        println!("calls: slips: NOT NOTICED: {words}");
+        missed += 1;
+    }
+    if noticed(Rules::RIGHT, &all) {
+        println!("calls: slips: the right text is refused");
+        missed += 1;
+    }
+    let (lines, wrong) = (all_lines(&all).count(), wrong.len());
     println!("calls: slips: {wrong} wrong texts of {lines} lines, {missed} not noticed");
     let unseen: Vec<Variant> = UNSEEN
         .into_iter()

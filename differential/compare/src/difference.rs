@@ -8,6 +8,7 @@ pub enum Comparison {
     CallByCall,
     Build,
     Plan,
+    Limits,
 }
 
 /// Which of the things compared differs.
@@ -19,7 +20,7 @@ pub enum Kind {
     Used,
     Sizes,
     NextSequence,
-    Bounds,
+    Edges,
     Pending,
     Horizons,
     Record,
@@ -51,6 +52,7 @@ impl Display for Comparison {
             Comparison::CallByCall => "call by call",
             Comparison::Build => "build",
             Comparison::Plan => "plan",
+            Comparison::Limits => "what holds of every list from build",
         })
     }
 }
@@ -64,7 +66,7 @@ impl Display for Kind {
             Kind::Used => "used",
             Kind::Sizes => "sizes",
             Kind::NextSequence => "next sequence number",
-            Kind::Bounds => "bounds",
+            Kind::Edges => "edges",
             Kind::Pending => "pending",
             Kind::Horizons => "horizons",
             Kind::Record => "least inbound bounds",
@@ -118,7 +120,7 @@ impl Check {
         self.same(Kind::Sizes, &sizes(a), &sizes(b))
             .or_else(|| self.same(Kind::Used, &a.used, &b.used))
             .or_else(|| self.same(Kind::NextSequence, &a.next, &b.next))
-            .or_else(|| self.same(Kind::Bounds, &a.edges, &b.edges))
+            .or_else(|| self.same(Kind::Edges, &a.edges, &b.edges))
             .or_else(|| self.same(Kind::Pending, &a.pending, &b.pending))
             .or_else(|| self.same(Kind::Horizons, &a.horizons, &b.horizons))
             .or_else(|| self.same(Kind::Record, &a.inbound, &b.inbound))

@@ -11,7 +11,7 @@ pub const PARTS: [&str; 10] = [
     "answer",
     "counters",
     "sizes, next sequence number and GVT",
-    "bounds",
+    "lookaheads and bounds of the edges",
     "pending events",
     "local horizons",
     "least inbound bounds",

@@ -1,4 +1,5 @@
-//! Compares the original with the rules.
+//! Compares the original with the rules. Where edges have different lookaheads the model of the rules judges
+//! alone; of N scenarios that the original judges there go N more of these.
 //!
 //!     compare quick             some thousand scenarios, and the documents' rehearsals
 //!     compare full [N]          N scenarios (a million if not given)
@@ -18,6 +19,8 @@
 mod calls;
 mod difference;
 mod host;
+mod judge;
+mod limits;
 mod lists;
 mod plans;
 mod program;

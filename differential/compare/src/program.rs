@@ -1,5 +1,6 @@
 //! Our program `plans` (crates/partition_main) against the original: the lines that it prints for the plans in
 //! lists of calls.
+use crate::judge::Judge;
 use crate::plans;
 use crate::shrink::shrink;
 use crate::tally::Tally;
@@ -88,10 +89,11 @@ fn first_difference(expected: &[Expected], text: &str) -> Option<(usize, String)
     first_other(expected.iter().map(|e| e.line.as_str()), text)
 }
 
-/// The list with this number: any calls, then some plans.
+/// The list with this number: any calls, then some plans. Every other one has different lookaheads: plan is on no
+/// state, so the original judges all plans.
 fn list(seed: u64, number: u64) -> List {
     let mut dice = Dice::new(seed.wrapping_mul(1 << 32) ^ number);
-    let mut list = generate::list(&mut dice);
+    let mut list = generate::list(&mut dice, number % 2 == 1);
     list.odd = None;
     let plans = (0..PLANS).map(|_| generate::any_plan(&mut dice));
     list.calls.extend(plans);
@@ -117,12 +119,16 @@ pub fn file(seed: u64, number: u64, lists: impl Iterator<Item = List>) -> Vec<u8
     bytes
 }
 
-/// A list whose call cannot be decoded, and one behind it. Neither is answered.
+/// A list whose build or call cannot be decoded, and one behind it. Neither is answered.
 pub fn undecodable(dice: &mut Dice) -> Vec<u8> {
     let [many, long] = generate::plans_beyond();
     let reply = generate::reply_beyond();
     let call = dice.pick(&[&Call::Step, &many, &long, &reply]);
-    let mut all = words::encode(&alone(call), 0);
+    let mut list = alone(call);
+    if dice.one_in(4) {
+        list.setup = generate::lookaheads_alone(8193);
+    }
+    let mut all = words::encode(&list, 0);
     if let (Call::Step, Some(tag)) = (call, all.last_mut()) {
         *tag = dice.pick(&[9, 1 << 32, u64::MAX]);
     }
@@ -139,6 +145,7 @@ pub fn alone(call: &Call) -> List {
         sources: vec![0],
         counts: vec![0],
         destinations: vec![],
+        lookaheads: vec![],
     };
     let (odd, calls) = (None, vec![call.clone()]);
     List { setup, odd, calls }
@@ -190,7 +197,7 @@ fn compare_one(
     tally.lists += lists.len() as u64;
     tally.plans += all.len() as u64;
     for expected in &all {
-        tally.answer(&expected.answer, expected.origin);
+        tally.answer(Judge::Rust, &expected.answer, expected.origin);
     }
     match printed(program, &bytes) {
         Ok(text) => told(program, number, &all, &text),

@@ -1,9 +1,9 @@
-//! States given whole whose record of least inbound bounds (A.2 of document 02) is wrong in one process, which
-//! 11 refuses, and such as are right, whatever the table has for processes that there are not. They are states
-//! of the original, reached by calls.
+//! States given whole whose record of least inbound bounds (A.2 of document 02) is wrong in one process, or of
+//! which an edge has a lookahead of 0 (A.4), which 11 refuses; and such as are right, whatever the table has for
+//! processes that there are not. They are states of the original, reached by calls; one is of the model.
 use crate::lists;
 use crate::states::{each_call, refused, Given};
-use model::{with_record, Call, Counters, List, Message, Payload, Setup, State};
+use model::{lookahead_words, with_record, Call, Counters, List, Message, Payload, Setup, State};
 use oracle::Origin;
 
 /// What stands in the table behind the last process, besides nothing.
@@ -19,11 +19,14 @@ fn setup(rows: &[Vec<u32>]) -> Setup {
         ids,
         counts: rows.iter().map(|row| row.len() as u64).collect(),
         destinations: rows.concat(),
+        lookaheads: vec![],
     }
+    .made_uniform()
 }
 
-/// The first process without inbound edges; the last; all 64 places taken; a process alone.
-fn setups() -> [Setup; 4] {
+/// The first process without inbound edges; the last; all 64 places taken; a process alone; and the first once
+/// more with different lookaheads.
+fn setups() -> [Setup; 5] {
     let web = [vec![1, 2], vec![2, 3], vec![1, 3], vec![4], vec![]];
     let falling: Vec<Vec<u32>> = (0..4)
         .map(|p: u32| p.checked_sub(1).into_iter().collect())
@@ -34,6 +37,10 @@ fn setups() -> [Setup; 4] {
         setup(&falling),
         setup(&rising),
         setup(&[vec![]]),
+        Setup {
+            lookaheads: lookahead_words([1, 5, 1 << 64, 2, 3, 4, u128::MAX]),
+            ..setup(&web)
+        },
     ]
 }
 
@@ -84,6 +91,7 @@ fn right(setup: Setup, noise: u32) -> Option<Given> {
     Some(Given {
         lines: std::iter::once(first).chain(lines).collect(),
         answers: seen.iter().map(|s| (s.answer.clone(), s.origin)).collect(),
+        judge: observed.judge,
         origin: Origin::Rust,
         calls: behind,
         state,
@@ -112,6 +120,23 @@ fn wrong(state: &State, counters: &Counters) -> Vec<Given> {
     .collect()
 }
 
+/// This state with a lookahead of 0 on its first edge, one in the middle and its last; one of the calls on each.
+fn without_lookahead(state: &State, counters: &Counters) -> Vec<Given> {
+    let Some(last) = state.edges.len().checked_sub(1) else {
+        return vec![];
+    };
+    let mut places = vec![0, last / 2, last];
+    places.dedup();
+    let calls = each_call().into_iter().cycle();
+    let each = places.into_iter().zip(calls);
+    each.map(|(at, call)| {
+        let mut state = state.clone();
+        state.edges[at].lookahead = 0;
+        refused(state, *counters, vec![call], 0)
+    })
+    .collect()
+}
+
 /// All of them.
 pub fn all() -> Vec<Given> {
     let mut all = vec![];
@@ -119,6 +144,7 @@ pub fn all() -> Vec<Given> {
         let reached = |noise| right(setup.clone(), noise).expect("the original gets into this run");
         let [plain, beyond] = [0, BEYOND].map(reached);
         all.extend(wrong(&plain.state, &plain.counters));
+        all.extend(without_lookahead(&plain.state, &plain.counters));
         all.extend([plain, beyond]);
     }
     all

@@ -1,13 +1,15 @@
-//! The rehearsals of documents 01 and 02 on the original.
+//! The rehearsals of documents 01 and 02 on the original, those with different lookaheads by the model.
+use crate::judge::Judge;
 use crate::lists;
 use crate::store::{begins, lines};
 
-/// Whether the original answers as the documents say it does.
+/// Whether the original, or the model, answers as the documents say it does.
 pub fn rehearse() -> bool {
     let rehearsals = generate::rehearsals();
-    let mut wrong = 0;
+    let (mut wrong, mut judged) = (0, 0);
     for rehearsal in &rehearsals {
         let observed = lists::observe(&rehearsal.list);
+        judged += u64::from(observed.judge == Judge::Rust);
         let (lines, _) = lines(&observed);
         let expected = &rehearsal.answers;
         let as_written = lines.len() == expected.len()
@@ -21,7 +23,7 @@ pub fn rehearse() -> bool {
         }
     }
     println!(
-        "compared: {} rehearsals of documents 01 and 02, {wrong} differences",
+        "compared: {} rehearsals of documents 01 and 02, {judged} judged by the Rust and the others by the model alone, {wrong} differences",
         rehearsals.len()
     );
     wrong == 0

@@ -1,19 +1,19 @@
 //! Many scenarios of whole runs: files of lists for our programs, and what was compared.
+use crate::judge::Judge;
 use crate::program::{name, printed, shown as cut, BATCH};
 use crate::runs::{check, numbered, observe, planned, Planned};
 use crate::shrink::shrink;
-use crate::tally::Tally;
+use crate::tally::{shown as refusals_shown, Tally};
 use crate::wholes;
 use crate::work::shared;
 use generate::Dice;
 use model::{Message, Scenario, Task};
-use oracle::{Origin, Whole};
+use oracle::Whole;
 use std::path::{Path, PathBuf};
 
-/// What was compared.
+/// What was compared with one judge.
 #[derive(Default)]
-struct Counted {
-    tally: Tally,
+struct Judged {
     scenarios: u64,
     tasks: u64,
     runs: u64,
@@ -23,9 +23,37 @@ struct Counted {
     passed_over: u64,
 }
 
+/// What was compared.
+#[derive(Default)]
+struct Counted {
+    tally: Tally,
+    by_rust: Judged,
+    by_model: Judged,
+}
+
 impl Counted {
+    fn of(&mut self, judge: Judge) -> &mut Judged {
+        match judge {
+            Judge::Rust => &mut self.by_rust,
+            Judge::Model => &mut self.by_model,
+        }
+    }
+
     fn add(&mut self, other: &Counted) {
         self.tally.add(&other.tally);
+        self.by_rust.add(&other.by_rust);
+        self.by_model.add(&other.by_model);
+    }
+
+    fn count(&mut self, planned: &Planned, whole: &Whole) {
+        let judge = planned.judge();
+        wholes::count(judge, whole, &mut self.tally);
+        self.of(judge).count(planned, whole);
+    }
+}
+
+impl Judged {
+    fn add(&mut self, other: &Judged) {
         self.scenarios += other.scenarios;
         self.tasks += other.tasks;
         self.runs += other.runs;
@@ -36,7 +64,6 @@ impl Counted {
     }
 
     fn count(&mut self, planned: &Planned, whole: &Whole) {
-        wholes::count(whole, &mut self.tally);
         let runs = planned
             .tasks
             .iter()
@@ -54,7 +81,7 @@ impl Counted {
 fn differs_alone(program: &Path, scenario: &Scenario) -> bool {
     let planned = planned(scenario);
     let whole = observe(&planned);
-    if matches!(whole.built, Err((_, Origin::Rules))) {
+    if !planned.is_compared(&whole) {
         return false;
     }
     let text = printed(program, &words::bytes(&words::encode(&planned.list, 0)));
@@ -86,7 +113,7 @@ impl File {
         for number in numbers {
             let (_, compared) = numbered(seed, number);
             let Some((planned, whole)) = compared else {
-                counted.passed_over += 1;
+                counted.by_rust.passed_over += 1;
                 continue;
             };
             counted.count(&planned, &whole);
@@ -144,32 +171,59 @@ const MET: [usize; 22] = [
 ];
 const MANY: u64 = 10_000;
 
+/// Of these, and 5, the ones that have to be met with different lookaheads too; and 40, which is met there alone.
+const MET_ALONE: [usize; 7] = [5, 8, 9, 10, 31, 32, 40];
+
+impl Judged {
+    fn print(&self, who: &str) {
+        let Judged {
+            scenarios,
+            tasks,
+            runs,
+            events,
+            calls,
+            cut,
+            passed_over,
+        } = self;
+        println!("runs: {who}: {scenarios} scenarios, {runs} runs and {} initial events, {events} events handed out; {calls} calls of ours", tasks - runs);
+        println!("runs: {who}: {cut} of them up to a task that document 01 alone refuses (17, 18); passed over: {passed_over} builds that it alone refuses");
+    }
+}
+
 /// Prints what was compared. Whether all was met that has to be.
 fn print(counted: &Counted, seed: u64) -> bool {
     let Counted {
         tally,
-        scenarios,
-        tasks,
-        runs,
-        events,
-        calls,
-        cut,
-        passed_over,
+        by_rust,
+        by_model,
     } = counted;
-    println!("runs: seed {seed}: {scenarios} scenarios, {runs} runs and {} initial events, {events} events handed out; {calls} calls of ours", tasks - runs);
-    println!("runs: {cut} of them up to a task that document 01 alone refuses (17, 18); passed over: {passed_over} builds that it alone refuses");
-    println!("runs: refusals seen: {}", tally.refusals());
+    println!("runs: seed {seed}");
+    let judged = "the plan's lookahead on every edge, judged by the Rust";
+    by_rust.print(judged);
+    println!(
+        "runs: {judged}: refusals: {}",
+        refusals_shown(&tally.refusals)
+    );
+    let alone = "different lookaheads, judged by the model alone";
+    by_model.print(alone);
+    println!(
+        "runs: {alone}: refusals: {}",
+        refusals_shown(&tally.refusals_alone)
+    );
     let unmet = MET.iter().filter(|number| tally.refusals[**number] == 0);
-    let unmet: Vec<String> = unmet.map(usize::to_string).collect();
+    let unmet_alone = MET_ALONE.iter();
+    let unmet_alone = unmet_alone.filter(|number| tally.refusals_alone[**number] == 0);
+    let unmet: Vec<String> = unmet.chain(unmet_alone).map(usize::to_string).collect();
     if !unmet.is_empty() {
         println!("runs: NOT MET, so not compared: {}", unmet.join(", "));
     }
-    unmet.is_empty() || scenarios + passed_over < MANY
+    unmet.is_empty() || by_rust.scenarios + by_rust.passed_over < MANY
 }
 
-/// Compares `count` scenarios with each program. Whether there was no difference, and every refusal
-/// that can be met was.
+/// Compares `count` scenarios with the plan's lookahead on every edge, and as many with different ones, with each
+/// program. Whether there was no difference, and every refusal that can be met was.
 pub fn compare(programs: &[PathBuf], seed: u64, count: u64) -> bool {
+    let count = 2 * count;
     let files = count.div_ceil(BATCH);
     let (mut counted, mut differences) = (Counted::default(), vec![]);
     for (part, found) in shared(files, |files| some_files(programs, seed, count, files)) {
@@ -179,8 +233,8 @@ pub fn compare(programs: &[PathBuf], seed: u64, count: u64) -> bool {
     differences.iter().for_each(|told| println!("{told}"));
     let names: Vec<String> = programs.iter().map(|program| name(program)).collect();
     let names = names.join(", ");
-    println!("runs: the Rust's own run_until_with_budget beside {names}");
+    println!("runs: the Rust's own run_until_with_budget, or the model where lookaheads differ, beside {names}");
     let met = print(&counted, seed);
     println!("runs: {} differences", differences.len());
-    differences.is_empty() && met && counted.scenarios > 0
+    differences.is_empty() && met && counted.by_rust.scenarios > 0 && counted.by_model.scenarios > 0
 }

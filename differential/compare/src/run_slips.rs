@@ -1,6 +1,7 @@
 //! The comparison of whole runs is tested against itself: wrong lines of a program are noticed.
 use crate::program::BATCH;
 use crate::runs::{check, numbered, Planned};
+use crate::work::shared;
 use model::{Answer, Call, Host, Rules, Variant};
 use oracle::Whole;
 use words::Line;
@@ -173,7 +174,7 @@ fn ends_early(planned: &Planned) -> Option<Lines> {
 type Change = (&'static str, fn(&Planned) -> Option<Lines>);
 
 /// Texts that are wrong in one place each. None where a scenario has no such place.
-const CHANGES: [Change; 30] = [
+const CHANGES: [Change; 31] = [
     ("handled is another", |p| in_last(p, COUNTERS, 0, 0)),
     ("emitted is another", |p| in_last(p, COUNTERS, 1, 0)),
     ("remote is another", |p| in_last(p, COUNTERS, 2, 0)),
@@ -186,7 +187,10 @@ const CHANGES: [Change; 30] = [
         in_last(p, SIZES, 2, 0)
     }),
     ("GVT is another", |p| in_last(p, SIZES, 3, 0)),
-    ("a bound is another", |p| in_last(p, EDGES, 0, 2)),
+    ("an edge's lookahead is another", |p| {
+        in_last(p, EDGES, 0, 2)
+    }),
+    ("a bound is another", |p| in_last(p, EDGES, 0, 3)),
     ("a local horizon is another", |p| in_last(p, HORIZONS, 0, 0)),
     ("a least inbound bound is another", |p| {
         in_last(p, INBOUND, 0, 0)
@@ -287,7 +291,7 @@ fn lines_by(rules: Rules, planned: &Planned) -> Lines {
 /// What whole runs from build do not show: it needs a state set by hand, a call that a host which
 /// answers its batches does not make (a plan, a read, a malformed reply),
 /// or it concerns the open run and the batch, which the original does not keep.
-const UNSEEN: [Variant; 22] = [
+const UNSEEN: [Variant; 25] = [
     Variant::ClosedByStoredHorizon,
     Variant::OneLessWraps,
     Variant::GvtFalls,
@@ -306,6 +310,9 @@ const UNSEEN: [Variant; 22] = [
     Variant::ForeignLowRecordUnseen,
     Variant::ForeignHighRecordUnseen,
     Variant::ForeignRecordByLowerHalf,
+    Variant::ForeignWithoutEdgeLookahead,
+    Variant::ForeignFirstEdgeLookahead,
+    Variant::ForeignLastEdgeLookaheadUnseen,
     Variant::PlanByGeneration,
     Variant::GreatestEntityTwice,
     Variant::PlanWritesBeforeTwice,
@@ -320,14 +327,24 @@ fn told(right: bool, what: &str) -> bool {
 }
 
 /// So many scenarios are looked at, and each change is made in so many of them.
-const MOST: u64 = 24 * BATCH;
-const PLACES: usize = 200;
+const MOST: u64 = 48 * BATCH;
+const PLACES: usize = 400;
+
+/// These scenarios in their order, those that are compared.
+fn scenarios(seed: u64) -> Vec<(Planned, Whole)> {
+    let some = shared(MOST, |numbers| {
+        let each = numbers.filter_map(|k| Some((k, numbered(seed, k).1?)));
+        each.collect::<Vec<_>>()
+    });
+    let mut all: Vec<(u64, (Planned, Whole))> = some.into_iter().flatten().collect();
+    all.sort_by_key(|(number, _)| *number);
+    all.into_iter().map(|(_, compared)| compared).collect()
+}
 
 /// Whether each change is noticed in every scenario where it is made, each wrong program in some
 /// scenario but for those that are listed above, and the right lines in none.
 pub fn slips(seed: u64) -> bool {
-    let numbered = |k| numbered(seed, k).1;
-    let all: Vec<(Planned, Whole)> = (0..MOST).filter_map(numbered).collect();
+    let all = scenarios(seed);
     let refused = all.iter().filter(|(p, w)| is_noticed(p, w, &p.lines));
     let mut right = told(refused.count() == 0, "right lines are refused");
     let mut texts = 0;

@@ -5,11 +5,13 @@
 //! A program is given a file of many lists of calls. The model writes the calls down that the host is
 //! going to make; then the host is run over the lines that the program printed, and has to make just
 //! these calls. So what is compared comes from our program and from the original: the model decides
-//! no answer, and a call that it did not foresee is a difference.
+//! no answer, and a call that it did not foresee is a difference. Where edges have different lookaheads the
+//! model stands in for the original, and every line has to be the model's.
 use crate::host::{parts, Host, Shown, PARTS};
+use crate::judge::Judge;
 use crate::program::shown as cut;
-use crate::wholes::only_in_rules;
-use generate::Dice;
+use crate::wholes::{by_model, only_in_rules};
+use crate::work::{dice, every_other};
 use model::{Answer, Call, List, Message, Reply, Rules, Scenario, Task};
 use oracle::{run_whole, Origin, Ran, Whole};
 use words::Line;
@@ -75,9 +77,39 @@ pub fn planned(scenario: &Scenario) -> Planned {
     planned
 }
 
-/// What the original does with it.
+/// What its judge does with it.
 pub fn observe(planned: &Planned) -> Whole {
-    run_whole(&planned.list.setup, None, &planned.replies, &planned.tasks)
+    let Planned {
+        replies,
+        tasks,
+        list,
+        ..
+    } = planned;
+    match planned.judge() {
+        Judge::Rust => run_whole(&list.setup, None, replies, tasks),
+        Judge::Model => {
+            let scenario = Scenario {
+                setup: list.setup.clone(),
+                odd: None,
+                initial: vec![],
+                replies: replies.clone(),
+                runs: vec![],
+            };
+            by_model(&scenario, tasks)
+        }
+    }
+}
+
+impl Planned {
+    pub fn judge(&self) -> Judge {
+        Judge::of_list(&self.list)
+    }
+
+    /// Whether it is compared: a build that document 01 alone refuses is not, where the original judges.
+    pub fn is_compared(&self, whole: &Whole) -> bool {
+        let alone = matches!(whole.built, Err((_, Origin::Rules)));
+        !alone || self.judge() == Judge::Model
+    }
 }
 
 /// What a program shows that printed these lines, or why the host does not understand it.
@@ -178,12 +210,27 @@ fn other(rust: &Shown, ours: &Shown) -> Option<String> {
     Some(told(&part, text(handled(rust, p)), text(handled(ours, p))))
 }
 
-/// The first difference between the original and a program that printed these lines.
+/// The first line that is not the model's.
+fn other_line<'a>(planned: &Planned, lines: &mut impl Iterator<Item = &'a str>) -> Option<String> {
+    planned.lines.iter().enumerate().find_map(|(at, right)| {
+        let ours = lines.next().unwrap_or("");
+        (right != ours).then(|| {
+            let (right, ours) = (cut(right), cut(ours));
+            let after = format!("after call {at} (0 is the build)");
+            format!("{after}:\n  the model:   {right}\n  our program: {ours}")
+        })
+    })
+}
+
+/// The first difference between the judge and a program that printed these lines.
 pub fn check<'a>(
     planned: &Planned,
     whole: &Whole,
     lines: &mut impl Iterator<Item = &'a str>,
 ) -> Option<String> {
+    if planned.judge() == Judge::Model {
+        return other_line(planned, lines);
+    }
     let ours = match replayed(planned, lines) {
         Ok(ours) => ours,
         Err(cause) => return Some(cause),
@@ -197,15 +244,14 @@ pub fn check<'a>(
     found.or((rust.len() != ours.len()).then(|| "another number of tasks".to_string()))
 }
 
-/// The scenario with this number; none where document 01 alone refuses the build.
+/// The scenario with this number; none where document 01 alone refuses the build. Every other one has different
+/// lookaheads.
 pub fn numbered(seed: u64, number: u64) -> (Scenario, Option<(Planned, Whole)>) {
-    let mut dice = Dice::new(seed.wrapping_mul(1 << 33) ^ number);
-    let scenario = generate::built_scenario(&mut dice);
+    let (number, mixed) = every_other(number);
+    let mut dice = dice(seed.wrapping_mul(1 << 33), number, mixed);
+    let scenario = generate::built_scenario(&mut dice, mixed);
     let planned = planned(&scenario);
     let whole = observe(&planned);
-    let compared = match whole.built {
-        Err((_, Origin::Rules)) => None,
-        _ => Some((planned, whole)),
-    };
+    let compared = planned.is_compared(&whole).then_some((planned, whole));
     (scenario, compared)
 }

@@ -1,5 +1,5 @@
 //! The smallest form of a difference: whatever can be left out while it still differs, is.
-use model::{Call, Emission, List, Message, Odd, Payload, Reply, Scenario, Setup};
+use model::{lookahead_words, Call, Emission, List, Message, Odd, Payload, Reply, Scenario, Setup};
 
 /// Something of which parts can be left out.
 pub trait Shrinks: Sized + Clone {
@@ -39,7 +39,7 @@ fn one_smaller<T: Shrinks>(list: &[T]) -> Vec<Vec<T>> {
     all
 }
 
-/// The setup without one edge, with the bound that goes with it.
+/// The setup without one edge, with the lookahead and the bound that go with it.
 fn without_edge(setup: &Setup, odd: &Option<Odd>) -> Vec<(Setup, Option<Odd>)> {
     let mut all = vec![];
     let mut at = 0;
@@ -51,6 +51,8 @@ fn without_edge(setup: &Setup, odd: &Option<Odd>) -> Vec<(Setup, Option<Odd>)> {
             let (mut setup, mut odd) = (setup.clone(), odd.clone());
             setup.destinations.remove(at);
             setup.counts[row] -= 1;
+            let end = setup.lookaheads.len();
+            setup.lookaheads.drain(end.min(2 * at)..end.min(2 * at + 2));
             if let Some(odd) = odd.as_mut().filter(|odd| at < odd.bounds.len()) {
                 odd.bounds.remove(at);
             }
@@ -59,6 +61,24 @@ fn without_edge(setup: &Setup, odd: &Option<Odd>) -> Vec<(Setup, Option<Odd>)> {
         }
     }
     all
+}
+
+/// The setup with the plan's lookahead on one edge more.
+fn with_plan_lookahead(setup: &Setup) -> Vec<Setup> {
+    let each = setup.edge_lookaheads();
+    let well = setup.lookaheads.len() == 2 * each.len();
+    let other = |at: &usize| well && each[*at] != setup.lookahead;
+    let places = (0..each.len()).filter(other);
+    places
+        .map(|at| {
+            let mut each = each.clone();
+            each[at] = setup.lookahead;
+            Setup {
+                lookaheads: lookahead_words(each),
+                ..setup.clone()
+            }
+        })
+        .collect()
 }
 
 impl Shrinks for Message {
@@ -137,8 +157,9 @@ impl Shrinks for List {
             odd,
             ..same()
         });
-        let ids = without_id(&self.setup).into_iter();
-        let ids = ids.map(|setup| List { setup, ..same() });
+        let setups = without_id(&self.setup).into_iter();
+        let setups = setups.chain(with_plan_lookahead(&self.setup));
+        let ids = setups.map(|setup| List { setup, ..same() });
         let odd = self.odd.iter().map(|_| List {
             odd: None,
             ..same()
@@ -181,8 +202,10 @@ impl Shrinks for Scenario {
             odd: None,
             ..same()
         });
+        let plans = with_plan_lookahead(&self.setup).into_iter();
+        let plans = plans.map(|setup| Scenario { setup, ..same() });
         let parts = runs.chain(initial).chain(replies);
-        parts.chain(edges).chain(odd).collect()
+        parts.chain(edges).chain(plans).chain(odd).collect()
     }
 }
 
@@ -198,7 +221,7 @@ mod tests {
     fn a_difference_gets_small() {
         let wrong = Rules::of(Variant::EligibleAtSafe);
         let differs = |list: &List| lists::check(wrong, list, &lists::observe(list)).is_some();
-        let mut lists = (0..).map(|number| generate::list(&mut Dice::new(number)));
+        let mut lists = (0..).map(|number| generate::list(&mut Dice::new(number), false));
         let found = lists.find(|list| list.calls.len() > 10 && differs(list));
         let smallest = shrink(&found.expect("there are such lists"), differs);
         assert!(smallest.calls.len() <= 4, "{smallest:?}");

@@ -1,10 +1,13 @@
 //! Our program on states given whole (docs/CALLS.md), for what no list from build reaches: private fields
-//! set by hand in the original too, and states that 11 refuses, which the original cannot have.
+//! set by hand in the original too, and states that 11 refuses, which the original cannot have. States whose
+//! edges have different lookaheads are the model's.
+use crate::judge::Judge;
 use crate::lists;
 use crate::program::{first_other, name, printed, shown, BATCH};
 use crate::records;
 use crate::store;
 use crate::tally::Tally;
+use crate::work::{dice, every_other};
 use generate::{Dice, CLAUSES};
 use model::{Answer, Call, Counters, Host, Message, Payload, Rules, State, Variant};
 use oracle::Origin;
@@ -20,7 +23,8 @@ pub struct Given {
     pub calls: Vec<Call>,
     pub lines: Vec<String>,
     pub answers: Vec<(Answer, Origin)>,
-    /// Whose state it is.
+    /// Who judges it, and whose state it is.
+    pub judge: Judge,
     pub origin: Origin,
     /// What stands where nothing counts.
     pub noise: u32,
@@ -29,6 +33,13 @@ pub struct Given {
 impl Given {
     pub fn words(&self) -> Vec<u64> {
         words::encode_given(&self.state, &self.counters, &self.calls, self.noise)
+    }
+
+    pub fn count(&self, tally: &mut Tally) {
+        tally.list(self.judge);
+        for (answer, origin) in &self.answers {
+            tally.answer(self.judge, answer, *origin);
+        }
     }
 }
 
@@ -101,25 +112,35 @@ pub fn refused(state: State, counters: Counters, calls: Vec<Call>, noise: u32) -
         answers.push((answer, Origin::Rules));
     }
     Given {
-        state,
         counters,
         calls,
         lines,
         answers,
+        judge: judge_of(&state),
         origin: Origin::Rules,
+        state,
         noise,
     }
 }
 
+/// The model judges alone where an edge has another lookahead than the plan's.
+fn judge_of(state: &State) -> Judge {
+    let mut edges = state.edges.iter();
+    match edges.all(|e| e.lookahead == state.lookahead) {
+        true => Judge::Rust,
+        false => Judge::Model,
+    }
+}
+
 /// One that 11 refuses by this clause.
-fn foreign(dice: &mut Dice, clause: u64, noise: u32) -> Option<Given> {
-    let (state, counters) = generate::foreign(dice, clause)?;
+fn foreign(dice: &mut Dice, clause: u64, noise: u32, mixed: bool) -> Option<Given> {
+    let (state, counters) = generate::foreign(dice, clause, mixed)?;
     Some(refused(state, counters, each_call(), noise))
 }
 
-/// A state whose private fields are set by hand in the original, which answers the calls.
-fn set_by_hand(dice: &mut Dice, noise: u32) -> Option<Given> {
-    let mut list = generate::list(dice);
+/// A state whose private fields are set by hand in the original, which answers the calls, or in the model.
+fn set_by_hand(dice: &mut Dice, noise: u32, mixed: bool) -> Option<Given> {
+    let mut list = generate::list(dice, mixed);
     let wrong = list.odd.as_ref()?.record.is_some();
     list.calls.retain(|call| !matches!(call, Call::Plan { .. }));
     let observed = lists::observe(&list);
@@ -133,19 +154,21 @@ fn set_by_hand(dice: &mut Dice, noise: u32) -> Option<Given> {
         answers: answers.map(|s| (s.answer.clone(), s.origin)).collect(),
         calls: list.calls,
         lines,
+        judge: observed.judge,
         origin: if wrong { Origin::Rules } else { Origin::Rust },
         noise,
     })
 }
 
-/// The state with this number.
+/// The state with this number. Every other one has different lookaheads.
 fn given(seed: u64, number: u64) -> Given {
-    let mut dice = Dice::new(seed.wrapping_mul(1 << 32) ^ number ^ (1 << 63));
+    let (number, mixed) = every_other(number);
+    let mut dice = dice(seed.wrapping_mul(1 << 32), number ^ (1 << 63), mixed);
     let noise = ((number % BATCH) as u32) << 8;
     loop {
         let made = match number % FOREIGN {
-            0 => foreign(&mut dice, number / FOREIGN, noise),
-            _ => set_by_hand(&mut dice, noise),
+            0 => foreign(&mut dice, number / FOREIGN, noise, mixed),
+            _ => set_by_hand(&mut dice, noise, mixed),
         };
         if let Some(made) = made {
             return made;
@@ -177,11 +200,12 @@ fn file(seed: u64, number: u64, count: u64) -> Vec<Given> {
     numbers.map(|number| given(seed, number)).collect()
 }
 
-/// Compares the states with wrong records and `count` others, adds to the tally, and prints what was
-/// compared. Whether there was no difference.
-pub fn compare(program: &Path, seed: u64, count: u64, tally: &mut Tally) -> bool {
+/// Compares the states with wrong records, `count` others and as many with different lookaheads, adds to the
+/// tally, and prints what was compared. Whether there was no difference.
+pub fn compare(program: &Path, seed: u64, count: u64, all_tally: &mut Tally) -> bool {
     let mut differences = vec![];
-    let (mut states, mut by_rust, mut by_rules) = (0, 0, 0);
+    let mut tally = Tally::default();
+    let count = 2 * count;
     for number in 0..count.div_ceil(BATCH) + 1 {
         let all = file(seed, number, count);
         let words = all.iter().flat_map(Given::words);
@@ -190,18 +214,16 @@ pub fn compare(program: &Path, seed: u64, count: u64, tally: &mut Tally) -> bool
             Ok(text) => differences.extend(told(number, &all, &text)),
             Err(cause) => differences.push(format!("{} does not run: {cause}", program.display())),
         }
-        for (answer, origin) in all.iter().flat_map(|g| &g.answers) {
-            tally.answer(answer, *origin);
-            by_rust += u64::from(*origin == Origin::Rust);
-            by_rules += u64::from(*origin == Origin::Rules);
-        }
-        states += all.len();
+        all.iter().for_each(|given| given.count(&mut tally));
     }
     differences.iter().for_each(|told| println!("{told}"));
     let name = name(program);
-    println!("states: our program {name}, seed {seed}: {states} states given whole, {} calls on them, {by_rust} answered by the Rust, {by_rules} by the documents alone; each of {CLAUSES} ways to be foreign", by_rust + by_rules);
+    let states = tally.judged + tally.alone;
+    println!("states: our program {name}, seed {seed}: {states} states given whole and calls on them; each of {CLAUSES} ways to be foreign");
+    tally.print_judges("states");
     println!("states: {} differences", differences.len());
-    differences.is_empty() && states > 0
+    all_tally.add(&tally);
+    differences.is_empty() && tally.judged > 0 && tally.alone > 0
 }
 
 /// The text of a program that follows other rules.
@@ -221,7 +243,7 @@ fn noticed(rules: Rules, all: &[Given]) -> bool {
 /// Whether each of these wrong programs, which lists from build do not show, is noticed here, and the
 /// right one is not.
 pub fn slips(seed: u64, unseen: &[Variant]) -> bool {
-    let files = (0..17).map(|number| file(seed, number, 16 * BATCH));
+    let files = (0..33).map(|number| file(seed, number, 32 * BATCH));
     let all: Vec<Given> = files.flatten().collect();
     let mut missed = 0;
     for variant in unseen {

@@ -1,6 +1,8 @@
 //! The stored sample: lists of calls with the original's answers.
+use crate::judge::Judge;
 use crate::lists::{self, Observed, Seen};
 use crate::tally::Tally;
+use crate::work::dice;
 use crate::{plans, program, records};
 use generate::Dice;
 use model::{Laid, List, Rules};
@@ -18,15 +20,18 @@ fn line(seen: &Seen) -> String {
     }
 }
 
-fn letter(origin: Origin) -> char {
-    match origin {
-        Origin::Rust => 'r',
-        Origin::Rules => '0',
+/// By the original, by the documents alone, and by the model alone.
+fn letter(judge: Judge, origin: Origin) -> char {
+    match (judge, origin) {
+        (Judge::Rust, Origin::Rust) => 'r',
+        (Judge::Rust, Origin::Rules) => '0',
+        (Judge::Model, _) => 'm',
     }
 }
 
 /// The lines of a list's answers, and who gave them: one letter for each line.
 pub fn lines(observed: &Observed) -> (Vec<String>, String) {
+    let letter = |origin| letter(observed.judge, origin);
     match &observed.built {
         Err((answer, origin)) => {
             let line = words::refused_build_line(answer);
@@ -40,13 +45,35 @@ pub fn lines(observed: &Observed) -> (Vec<String>, String) {
     }
 }
 
-/// The lists of the sample: the documents' rehearsals (but for the long one), then others.
+/// Beside so many lists that the original judges, one with different lookaheads.
+const ALONE: u64 = 3;
+
+/// The first of these with different lookaheads: 64 processes and 512 edges.
+const FIRST_ALONE: u64 = 5;
+
+/// The lists of the sample: the documents' rehearsals (but for the long ones), then others, `count` of all these
+/// for the original; then such as have different lookaheads.
 fn sample(count: u64, seed: u64) -> Vec<List> {
     let rehearsals = generate::rehearsals().into_iter().map(|r| r.list);
-    let mut all: Vec<List> = rehearsals.filter(|list| list.calls.len() < 100).collect();
-    for number in 0..count.saturating_sub(all.len() as u64) {
-        let mut dice = Dice::new(seed.wrapping_mul(1 << 32) ^ number);
-        all.push(generate::stored_list(&mut dice, number));
+    let short = |list: &List| list.calls.len() < 100 && list.setup.lookaheads.len() < 100;
+    let mut all: Vec<List> = rehearsals.filter(short).collect();
+    let judged = |list: &&List| Judge::of_list(list) == Judge::Rust;
+    let judged = all.iter().filter(judged).count() as u64;
+    let alone = (count / ALONE).saturating_sub(all.len() as u64 - judged);
+    let seed = seed.wrapping_mul(1 << 32);
+    for number in 0..count.saturating_sub(judged) {
+        all.push(generate::stored_list(
+            &mut dice(seed, number, false),
+            number,
+            false,
+        ));
+    }
+    for number in FIRST_ALONE..FIRST_ALONE + alone {
+        all.push(generate::stored_list(
+            &mut dice(seed, number, true),
+            number,
+            true,
+        ));
     }
     all
 }
@@ -74,18 +101,15 @@ pub fn store(folder: &Path, count: u64, seed: u64) -> bool {
         calls.extend(written);
         answers.extend(lines);
         origins += &(letters + "\n");
-        tally.lists += 1;
     }
     for given in records::all() {
         calls.extend(words::bytes(&given.words()));
-        answers.extend(given.lines);
+        answers.extend(given.lines.iter().map(String::as_str));
+        let letter = |origin| letter(given.judge, origin);
         origins.push(letter(given.origin));
         origins.extend(given.answers.iter().map(|(_, origin)| letter(*origin)));
         origins.push('\n');
-        for (answer, origin) in &given.answers {
-            tally.answer(answer, *origin);
-        }
-        tally.lists += 1;
+        given.count(&mut tally);
     }
     let files = [
         ("calls.words", &calls[..]),
@@ -94,12 +118,13 @@ pub fn store(folder: &Path, count: u64, seed: u64) -> bool {
     ];
     let bytes: usize = files.iter().map(|(_, bytes)| bytes.len()).sum();
     println!(
-        "sample: seed {seed}, {} lists, {} lines, {} of them by the Rust, {bytes} bytes, {differ} differences",
-        tally.lists,
+        "sample: seed {seed}, {} lists, {} lines, {} of them by the Rust, {} by the model alone, {bytes} bytes, {differ} differences",
+        tally.judged + tally.alone,
         answers.lines().count(),
-        origins.matches('r').count()
+        origins.matches('r').count(),
+        origins.matches('m').count()
     );
-    println!("sample: refusals: {}", tally.refusals());
+    tally.print_judges("sample");
     differ == 0
         && files
             .iter()
@@ -120,7 +145,7 @@ pub fn store_plans(folder: &Path, count: u64, seed: u64) -> bool {
     bytes.extend(program::undecodable(&mut Dice::new(seed)));
     let all = program::expected(&lists);
     let lines: String = all.iter().map(|e| e.line.as_str()).collect();
-    let origins: String = all.iter().map(|e| letter(e.origin)).collect();
+    let origins: String = all.iter().map(|e| letter(Judge::Rust, e.origin)).collect();
     println!(
         "plans: {} lists, {} plans, {} by the Rust",
         lists.len(),

@@ -1,5 +1,7 @@
-//! Whole runs: `run_until_with_budget` against begin, step and hand back.
+//! Whole runs: `run_until_with_budget` against begin, step and hand back. Scenarios whose edges have different
+//! lookaheads are carried out by the model.
 use crate::difference::{Check, Comparison, Difference, Kind};
+use crate::judge::{carried, carrying, Judge};
 use crate::tally::Tally;
 use model::{Answer, Call, Event, Host, Refusal, Reply, Rules, Scenario, State, Stored, Task};
 use oracle::{run_whole, Origin, Ran, Whole};
@@ -48,8 +50,15 @@ pub fn comparable(scenario: &Scenario) -> bool {
     answers.all(|answer| answer.is_some_and(|a| !only_in_rules(&a)))
 }
 
-/// What the original does with a scenario.
+/// What the judge does with a scenario: the original, or the model.
 pub fn observe(scenario: &Scenario) -> Whole {
+    match Judge::of_scenario(scenario) {
+        Judge::Rust => by_rust(scenario),
+        Judge::Model => by_model(scenario, &scenario.tasks()),
+    }
+}
+
+fn by_rust(scenario: &Scenario) -> Whole {
     let Scenario {
         setup,
         odd,
@@ -57,6 +66,49 @@ pub fn observe(scenario: &Scenario) -> Whole {
         ..
     } = scenario;
     run_whole(setup, odd.as_ref(), replies, &scenario.tasks())
+}
+
+/// What the model does with these tasks of a scenario.
+pub fn by_model(scenario: &Scenario, tasks: &[Task]) -> Whole {
+    let seen = |host: &Host, answer| Ran {
+        answer,
+        counters: host.counters,
+        state: host.state.clone(),
+        history: host.history.clone(),
+        handled: host.handled.clone(),
+    };
+    let mut host = match start(Rules::RIGHT, scenario) {
+        Ok(host) => host,
+        Err(Answer::Refused(refusal)) => {
+            return Whole {
+                built: Err((refusal, Origin::Rules)),
+                ran: vec![],
+            }
+        }
+        Err(other) => panic!("build answers {other:?}"),
+    };
+    let built = Ok(seen(&host, Answer::Accepted));
+    let mut ran = vec![];
+    for task in tasks {
+        let answer = carry_out(&mut host, scenario, task);
+        ran.extend(answer.map(|answer| seen(&host, answer)));
+    }
+    Whole { built, ran }
+}
+
+/// A scenario whose edges all carry one lookahead other than the plan's, on the original with this one for
+/// the plan's. What it shows of the plan's lookahead is the scenario's own again.
+pub fn observe_carried(scenario: &Scenario) -> Option<Whole> {
+    let lookahead = carried(&scenario.setup, &scenario.odd)?;
+    let mut whole = by_rust(&Scenario {
+        setup: carrying(&scenario.setup, lookahead),
+        ..scenario.clone()
+    });
+    let built = whole.built.iter_mut();
+    for ran in built.chain(&mut whole.ran) {
+        ran.state.lookahead = scenario.setup.lookahead;
+    }
+    Some(whole)
 }
 
 fn start(rules: Rules, scenario: &Scenario) -> Result<Host, Answer> {
@@ -67,12 +119,14 @@ fn start(rules: Rules, scenario: &Scenario) -> Result<Host, Answer> {
     Ok(host)
 }
 
-pub fn count(whole: &Whole, tally: &mut Tally) {
+/// Counts a scenario and its answers.
+pub fn count(judge: Judge, whole: &Whole, tally: &mut Tally) {
+    tally.list(judge);
     if let Err((refusal, origin)) = &whole.built {
-        tally.answer(&Answer::Refused(*refusal), *origin);
+        tally.answer(judge, &Answer::Refused(*refusal), *origin);
     }
     for ran in &whole.ran {
-        tally.answer(&ran.answer, Origin::Rust);
+        tally.answer(judge, &ran.answer, Origin::Rust);
     }
 }
 
@@ -129,4 +183,12 @@ pub fn difference(scenario: &Scenario) -> Option<Difference> {
         return None;
     }
     check(Rules::RIGHT, scenario, &observe(scenario))
+}
+
+/// The same of the original with the lookahead that all edges carry.
+pub fn carried_difference(scenario: &Scenario) -> Option<Difference> {
+    if !comparable(scenario) {
+        return None;
+    }
+    check(Rules::RIGHT, scenario, &observe_carried(scenario)?)
 }

@@ -6,7 +6,7 @@ use model::{
 };
 
 /// How many clauses there are below.
-pub const CLAUSES: u64 = 24;
+pub const CLAUSES: u64 = 27;
 
 fn event(s: &State, destination: u32) -> Event {
     let message = Message {
@@ -38,10 +38,12 @@ fn hold_batch(s: &mut State) {
     s.batch = vec![event(s, 0)];
 }
 
-fn edge(source: u32, destination: u32) -> Edge {
+/// One more edge, with the plan's lookahead.
+fn edge(s: &State, source: u32, destination: u32) -> Edge {
     Edge {
         source,
         destination,
+        lookahead: s.lookahead,
         bound: 3,
     }
 }
@@ -68,8 +70,21 @@ pub fn wrong_record(dice: &mut Dice, which: u64, inbound: &[u128]) -> Option<(us
     Some((p, dice.pick(&wrong_records(inbound[p]))))
 }
 
-/// Breaks one clause. The limits of counts and lengths, and ids, have several; the last three are
-/// A.2's. But for these, the record is that of the edges.
+/// An edge whose lookahead is 0: the first, the last or any one. Nothing where there is no edge.
+fn zero_lookahead(dice: &mut Dice, which: u64, edges: &mut [Edge]) {
+    let any = dice.index(edges.len());
+    let edge = match which {
+        0 => edges.first_mut(),
+        1 => edges.last_mut(),
+        _ => edges.get_mut(any),
+    };
+    if let Some(edge) = edge {
+        edge.lookahead = 0;
+    }
+}
+
+/// Breaks one clause. The limits of counts and lengths, and ids, have several; of the last six, three are
+/// A.2's and three A.4's. But for A.2's, the record is that of the edges.
 fn break_clause(dice: &mut Dice, clause: u64, s: &mut State) {
     let n = s.n as u32;
     let strange = n + dice.below(2) as u32;
@@ -77,7 +92,7 @@ fn break_clause(dice: &mut Dice, clause: u64, s: &mut State) {
         0 => s.n = 0,
         1 => s.n = dice.pick(&[65, 66, u64::MAX]),
         2 => s.lookahead = 0,
-        3 => s.edges = vec![edge(0, 1); 513],
+        3 => s.edges = vec![edge(s, 0, 1); 513],
         4 => {
             while s.pending.len() < 513 {
                 push_pending(s);
@@ -96,8 +111,8 @@ fn break_clause(dice: &mut Dice, clause: u64, s: &mut State) {
             hold_batch(s);
             s.batch[0].payload = Payload::new(u64::MAX, [3; 16]);
         }
-        8 => s.edges.push(edge(strange, 0)),
-        9 => s.edges.push(edge(0, strange)),
+        8 => s.edges.push(edge(s, strange, 0)),
+        9 => s.edges.push(edge(s, 0, strange)),
         10 => {
             push_pending(s);
             let last = s.pending.len() - 1;
@@ -116,8 +131,8 @@ fn break_clause(dice: &mut Dice, clause: u64, s: &mut State) {
             hold_batch(s);
             s.batch[0].destination = strange;
         }
-        14 => s.edges.extend([edge(0, n - 1), edge(0, n - 1)]),
-        15 => s.edges.push(edge(0, 0)),
+        14 => s.edges.extend([edge(s, 0, n - 1); 2]),
+        15 => s.edges.push(edge(s, 0, 0)),
         16 => {
             push_pending(s);
             let last = s.pending[s.pending.len() - 1];
@@ -145,25 +160,30 @@ fn break_clause(dice: &mut Dice, clause: u64, s: &mut State) {
                 s.batch.push(s.batch[0]);
             }
         }
+        24.. => zero_lookahead(dice, clause - 24, &mut s.edges),
         _ => {}
     }
     s.horizons.resize(s.n.min(64) as usize, 0);
     let inbound = Rules::RIGHT.inbound_of(s.n, &s.edges);
     let wrong = match clause {
-        21.. => wrong_record(dice, clause - 21, &inbound),
+        21..=23 => wrong_record(dice, clause - 21, &inbound),
         _ => None,
     };
     s.inbound = with_record(inbound, wrong);
 }
 
 /// A state that a list of calls left, with one clause broken; and its counters.
-pub fn foreign(dice: &mut Dice, clause: u64) -> Option<(State, Counters)> {
+pub fn foreign(dice: &mut Dice, clause: u64, mixed: bool) -> Option<(State, Counters)> {
     let number = 6 + dice.below(1000);
-    let list = stored_list(dice, number);
+    let list = stored_list(dice, number, mixed);
     let mut host = Host::build(Rules::RIGHT, &list.setup).ok()?;
     for call in &list.calls {
         host.call(call);
     }
-    break_clause(dice, clause % CLAUSES, &mut host.state);
+    let clause = clause % CLAUSES;
+    if clause >= 24 && host.state.edges.is_empty() {
+        return None;
+    }
+    break_clause(dice, clause, &mut host.state);
     Some((host.state, host.counters))
 }

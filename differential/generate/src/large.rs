@@ -1,6 +1,7 @@
 //! A few large ones: 64 processes with 512 edges, and full queues.
 use crate::calls::{initial, next_call};
 use crate::dice::Dice;
+use crate::lookaheads::with_lookaheads;
 use crate::plans::large_plan;
 use crate::replies::payload;
 use crate::setups::good_setup;
@@ -11,19 +12,21 @@ use model::{
 };
 
 /// 64 processes, each with edges to the next eight.
-fn ring() -> Setup {
+fn ring(dice: &mut Dice, shape: &Shape) -> Setup {
     let next = |source: u32| (1..=8).map(move |step| (source + step) % 64);
-    Setup {
+    let setup = Setup {
         n: 64,
         lookahead: 2,
         ids: (0..64).collect(),
         sources: (0..64).collect(),
         counts: vec![8; 64],
         destinations: (0..64).flat_map(next).collect(),
-    }
+        lookaheads: vec![],
+    };
+    with_lookaheads(dice, shape, setup)
 }
 
-fn ring_shape(dice: &mut Dice) -> Shape {
+fn ring_shape(dice: &mut Dice, mixed: bool) -> Shape {
     Shape {
         n: 64,
         lookahead: 2,
@@ -32,21 +35,23 @@ fn ring_shape(dice: &mut Dice) -> Shape {
         dense: 3,
         forward: false,
         odd: false,
+        mixed,
         faults: dice.pick(&[0, 0, 200]),
         eager: 8,
     }
 }
 
 /// Few processes, for a full queue.
-fn crowd_shape(dice: &mut Dice) -> Shape {
-    Shape {
+fn crowd_shape(dice: &mut Dice, mixed: bool) -> Shape {
+    let shape = Shape {
         n: 1 + dice.below(3) as u32,
         spread: 5,
         low: 0,
         odd: false,
         faults: 0,
         ..Shape::any(dice)
-    }
+    };
+    shape.with(mixed)
 }
 
 /// As many initial events as may be pending.
@@ -76,6 +81,7 @@ fn almost_numbered(dice: &mut Dice, setup: &Setup) -> Odd {
         bounds: setup.destinations.iter().map(|_| 4).collect(),
         horizons: setup.ids.iter().map(|_| 0).collect(),
         record: None,
+        lookahead: None,
         next: MOST - MOST_PENDING as u64 - dice.below(3),
         gvt: 0,
         initial: true,
@@ -120,8 +126,8 @@ impl Maker {
     }
 }
 
-fn full_queue(dice: &mut Dice) -> List {
-    let shape = crowd_shape(dice);
+fn full_queue(dice: &mut Dice, mixed: bool) -> List {
+    let shape = crowd_shape(dice, mixed);
     let setup = good_setup(dice, &shape);
     let odd = dice.one_in(2).then(|| almost_numbered(dice, &setup));
     let initial = crowd(dice, &shape, &setup);
@@ -152,13 +158,13 @@ fn full_queue(dice: &mut Dice) -> List {
     list
 }
 
-fn ring_list(dice: &mut Dice, count: usize, eager: u64) -> List {
+fn ring_list(dice: &mut Dice, count: usize, eager: u64, mixed: bool) -> List {
     let shape = Shape {
         eager,
-        ..ring_shape(dice)
+        ..ring_shape(dice, mixed)
     };
     let mut list = List {
-        setup: ring(),
+        setup: ring(dice, &shape),
         odd: None,
         calls: vec![],
     };
@@ -177,25 +183,25 @@ fn ring_list(dice: &mut Dice, count: usize, eager: u64) -> List {
 }
 
 /// A large list.
-pub fn list(dice: &mut Dice) -> List {
+pub fn list(dice: &mut Dice, mixed: bool) -> List {
     if dice.one_in(2) {
-        full_queue(dice)
+        full_queue(dice, mixed)
     } else {
         let eager = dice.pick(&[4, 40]);
-        ring_list(dice, 70, eager)
+        ring_list(dice, 70, eager, mixed)
     }
 }
 
 /// A large scenario of whole runs.
-pub fn scenario(dice: &mut Dice) -> Scenario {
+pub fn scenario(dice: &mut Dice, mixed: bool) -> Scenario {
     let many = dice.one_in(2);
     let shape = if many {
-        ring_shape(dice)
+        ring_shape(dice, mixed)
     } else {
-        crowd_shape(dice)
+        crowd_shape(dice, mixed)
     };
     let setup = if many {
-        ring()
+        ring(dice, &shape)
     } else {
         good_setup(dice, &shape)
     };
@@ -229,6 +235,7 @@ fn full_by_one_reply(over: usize) -> List {
             sources: vec![0],
             counts: vec![0],
             destinations: vec![],
+            lookaheads: vec![],
         },
         odd: None,
         calls: vec![],
@@ -256,12 +263,13 @@ fn full_by_one_reply(over: usize) -> List {
     list
 }
 
-fn more_edges_than_there_may_be() -> List {
-    let mut setup = ring();
+fn more_edges_than_there_may_be(dice: &mut Dice) -> List {
+    let shape = ring_shape(dice, false);
+    let mut setup = ring(dice, &shape);
     setup.counts[63] += 1;
     setup.destinations.push(40);
     List {
-        setup,
+        setup: setup.made_uniform(),
         odd: None,
         calls: vec![],
     }
@@ -271,16 +279,16 @@ fn more_edges_than_there_may_be() -> List {
 pub const STORED: u64 = 6;
 
 /// The large lists of the stored sample.
-pub fn stored_list(dice: &mut Dice, number: u64) -> List {
+pub fn stored_list(dice: &mut Dice, number: u64, mixed: bool) -> List {
     match number {
         0 => full_by_one_reply(0),
         1 => full_by_one_reply(1),
-        2 => more_edges_than_there_may_be(),
+        2 => more_edges_than_there_may_be(dice),
         3 => {
             let mut list = full_by_one_reply(0);
             list.calls = vec![large_plan(dice), large_plan(dice)];
             list
         }
-        _ => ring_list(dice, 12, 3),
+        _ => ring_list(dice, 12, 3, mixed),
     }
 }

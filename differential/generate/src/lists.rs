@@ -48,12 +48,23 @@ fn record(dice: &mut Dice, setup: &Setup, odd: &Odd) -> Option<(usize, u128)> {
     wrong_record(dice, which, &host.state.inbound)
 }
 
-/// A list of calls, now and then from a state set by hand, a foreign one among these.
-pub fn list(dice: &mut Dice) -> List {
+/// The first, the last or any one of so many.
+fn one_of(dice: &mut Dice, count: usize) -> Option<usize> {
+    let last = count.checked_sub(1)?;
+    Some(match dice.below(3) {
+        0 => 0,
+        1 => last,
+        _ => dice.index(count),
+    })
+}
+
+/// A list of calls, now and then from a state set by hand, a foreign one among these. With different
+/// lookaheads or with the plan's on every edge.
+pub fn list(dice: &mut Dice, mixed: bool) -> List {
     if dice.one_in(250) {
-        return large::list(dice);
+        return large::list(dice, mixed);
     }
-    let shape = Shape::any(dice);
+    let shape = Shape::any(dice).with(mixed);
     let setup = good_setup(dice, &shape);
     let mut odd = odd(dice, &shape, &setup);
     if let Some(odd) = &mut odd {
@@ -65,6 +76,8 @@ pub fn list(dice: &mut Dice) -> List {
             });
         } else if dice.one_in(12) {
             odd.record = record(dice, &setup, odd);
+        } else if mixed && dice.one_in(12) {
+            odd.lookahead = one_of(dice, setup.destinations.len());
         }
     }
     let count = match dice.below(10) {
@@ -75,8 +88,8 @@ pub fn list(dice: &mut Dice) -> List {
 }
 
 /// The shape of a list that is stored: small, and faulty as a rule.
-fn stored_shape(dice: &mut Dice) -> Shape {
-    let shape = Shape::natural(dice);
+fn stored_shape(dice: &mut Dice, mixed: bool) -> Shape {
+    let shape = Shape::natural(dice).with(mixed);
     Shape {
         n: shape.n.min(4),
         spread: 2 + dice.below(4),
@@ -87,13 +100,13 @@ fn stored_shape(dice: &mut Dice) -> Shape {
 }
 
 /// A list for the stored sample: from build alone, and short. The first ones are large.
-pub fn stored_list(dice: &mut Dice, number: u64) -> List {
+pub fn stored_list(dice: &mut Dice, number: u64, mixed: bool) -> List {
     if number < large::STORED {
-        return large::stored_list(dice, number);
+        return large::stored_list(dice, number, mixed);
     }
-    let shape = stored_shape(dice);
+    let shape = stored_shape(dice, mixed);
     if dice.one_in(7) {
-        let setup = any_setup(dice);
+        let setup = any_setup(dice, mixed);
         return list_of(dice, &shape, setup, None, 0);
     }
     let setup = good_setup(dice, &shape);

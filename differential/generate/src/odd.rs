@@ -51,6 +51,7 @@ pub fn odd(dice: &mut Dice, shape: &Shape, setup: &Setup) -> Option<Odd> {
         bounds: edges.map(|_| near(dice)).collect(),
         horizons: setup.ids.iter().map(|_| near(dice)).collect(),
         record: None,
+        lookahead: None,
         next: dice.pick(&[0, 1, MOST - 12, MOST - 5, MOST - 3, MOST - 1, MOST]),
         gvt: if dice.one_in(3) { near(dice) } else { 0 },
         initial: !dice.one_in(10),

@@ -1,7 +1,7 @@
 //! What processes answer, good replies and others.
 use crate::dice::Dice;
 use crate::setups::any_id;
-use model::{Call, Emission, Event, Message, Payload, State, MOST, TOP};
+use model::{Call, Edge, Emission, Event, Message, Payload, State, MOST, TOP};
 
 pub fn payload(dice: &mut Dice) -> Payload {
     let length = dice.pick(&[0, 0, 0, 0, 0, 1, 1, 2, 3, 16]);
@@ -29,12 +29,24 @@ fn destination(dice: &mut Dice, s: &State, p: u32) -> u32 {
     }
 }
 
+/// The lookahead of the edge, or the plan's where there is none.
+fn lookahead(s: &State, from: u32, to: u32) -> u128 {
+    let along = |e: &&Edge| e.source == from && e.destination == to;
+    let edge = s.edges.iter().find(along);
+    edge.map_or(s.lookahead, |e| e.lookahead)
+}
+
 fn minimum(s: &State, e: &Event, to: u32) -> u128 {
     if to == e.destination {
         e.tick
     } else {
-        e.tick.saturating_add(s.lookahead)
+        e.tick.saturating_add(lookahead(s, e.destination, to))
     }
+}
+
+/// Whether an edge has another lookahead than the plan's.
+fn is_mixed(s: &State) -> bool {
+    s.edges.iter().any(|e| e.lookahead != s.lookahead)
 }
 
 /// A message that is accepted in answer to the event e, as a rule.
@@ -62,6 +74,7 @@ fn spoil(dice: &mut Dice, s: &State, e: &Event, m: &mut Message) {
         4 => m.tick = minimum(s, e, m.destination).saturating_sub(1),
         5 => m.tick = local.saturating_sub(u128::from(dice.below(2))),
         6 => m.tick = dice.pick(&[0, TOP]),
+        7 if is_mixed(s) => m.tick = e.tick.saturating_add(s.lookahead),
         _ => m.tick = e.tick,
     }
 }

@@ -1,5 +1,6 @@
 //! Build arguments, good ones and others.
 use crate::dice::Dice;
+use crate::lookaheads::{spoil_lookaheads, with_lookaheads};
 use crate::shape::Shape;
 use model::{Setup, MOST};
 
@@ -12,6 +13,7 @@ pub fn good_setup(dice: &mut Dice, shape: &Shape) -> Setup {
         sources: (0..shape.n).collect(),
         counts: vec![],
         destinations: vec![],
+        lookaheads: vec![],
     };
     for source in 0..shape.n {
         let reachable = |d: &u32| *d != source && (*d > source || !shape.forward);
@@ -21,7 +23,7 @@ pub fn good_setup(dice: &mut Dice, shape: &Shape) -> Setup {
         setup.counts.push(row.len() as u64);
         setup.destinations.extend(row);
     }
-    setup
+    with_lookaheads(dice, shape, setup)
 }
 
 /// An id that is perhaps not one of the processes.
@@ -104,9 +106,9 @@ fn spoil_destinations(dice: &mut Dice, setup: &mut Setup) {
     setup.counts[row] += 1;
 }
 
-/// A good setup, spoilt in up to three places.
-pub fn any_setup(dice: &mut Dice) -> Setup {
-    let shape = Shape::any(dice);
+/// A good setup, spoilt in up to three places, and in its lookaheads if these are different.
+pub fn any_setup(dice: &mut Dice, mixed: bool) -> Setup {
+    let shape = Shape::any(dice).with(mixed);
     let mut setup = good_setup(dice, &shape);
     for _ in 0..dice.below(4) {
         match dice.below(12) {
@@ -120,6 +122,10 @@ pub fn any_setup(dice: &mut Dice) -> Setup {
             }
             _ => {}
         }
+    }
+    let mut setup = with_lookaheads(dice, &shape, setup);
+    if mixed {
+        spoil_lookaheads(dice, &mut setup);
     }
     setup
 }

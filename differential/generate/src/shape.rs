@@ -15,6 +15,8 @@ pub struct Shape {
     pub forward: bool,
     /// Whether private fields are set by hand.
     pub odd: bool,
+    /// Whether edges have lookaheads of their own.
+    pub mixed: bool,
     /// One in so many emissions or replies is faulty; none for 0.
     pub faults: u64,
     /// One in so many calls before the first run begins it.
@@ -31,6 +33,7 @@ fn dense(dice: &mut Dice) -> Shape {
         dense: 1 + dice.below(3),
         forward: dice.one_in(4),
         odd: dice.one_in(6),
+        mixed: false,
         faults: dice.pick(&[0, 0, 6, 12, 25]),
         eager: 4,
     }
@@ -93,6 +96,20 @@ impl Shape {
         Self {
             odd: false,
             ..Self::any(dice)
+        }
+    }
+
+    /// With lookaheads of the edges' own, for which there have to be edges, or without.
+    pub fn with(self, mixed: bool) -> Self {
+        if !mixed {
+            return self;
+        }
+        let few = self.n < 5;
+        Self {
+            n: self.n.max(2),
+            dense: if few { self.dense.max(2) } else { self.dense },
+            mixed,
+            ..self
         }
     }
 

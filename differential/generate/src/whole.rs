@@ -89,25 +89,26 @@ fn filled(dice: &mut Dice, shape: &Shape, setup: Setup, odd: Option<Odd>) -> Sce
     scenario
 }
 
-/// A scenario of whole runs, now and then from a state set by hand.
-pub fn scenario(dice: &mut Dice) -> Scenario {
+/// A scenario of whole runs, now and then from a state set by hand. With different lookaheads or with the
+/// plan's on every edge.
+pub fn scenario(dice: &mut Dice, mixed: bool) -> Scenario {
     if dice.one_in(400) {
-        return large::scenario(dice);
+        return large::scenario(dice, mixed);
     }
-    let shape = Shape::any(dice);
+    let shape = Shape::any(dice).with(mixed);
     let setup = good_setup(dice, &shape);
     let odd = odd(dice, &shape, &setup);
     filled(dice, &shape, setup, odd)
 }
 
 /// One that starts from build, which may be refused.
-pub fn built_scenario(dice: &mut Dice) -> Scenario {
+pub fn built_scenario(dice: &mut Dice, mixed: bool) -> Scenario {
     if dice.one_in(1000) {
-        return large::scenario(dice);
+        return large::scenario(dice, mixed);
     }
-    let shape = Shape::natural(dice);
+    let shape = Shape::natural(dice).with(mixed);
     let setup = match dice.one_in(8) {
-        true => any_setup(dice),
+        true => any_setup(dice, mixed),
         false => good_setup(dice, &shape),
     };
     filled(dice, &shape, setup, None)

@@ -1,5 +1,5 @@
 //! What a call answers: one case for each answer and each refusal, with the number and the values
-//! that document 01's table gives to it (Answers.antt).
+//! that document 01's table gives to it, and A.4's 40 (Answers.antt).
 use crate::state::{Counters, Event};
 
 #[derive(Clone, Copy, Debug, Default, Eq, PartialEq)]
@@ -27,6 +27,7 @@ pub enum Refusal {
     UnknownTopologyDestination(u32, u32),
     SelfLoop(u32),
     DuplicateNeighbor(u32, u32),
+    InvalidEdgeLookahead,
     ForeignState,
     Poisoned,
     InitialEventsAlreadyClosed,
@@ -74,6 +75,7 @@ impl Refusal {
             UnknownTopologyDestination(..) => 8,
             SelfLoop(..) => 9,
             DuplicateNeighbor(..) => 10,
+            InvalidEdgeLookahead => 40,
             ForeignState => 11,
             Poisoned => 12,
             InitialEventsAlreadyClosed => 13,
@@ -129,6 +131,7 @@ impl Refusal {
             InvalidLookahead
             | UnorderedProcesses
             | MalformedTopology
+            | InvalidEdgeLookahead
             | ForeignState
             | Poisoned
             | InitialEventsAlreadyClosed

@@ -1,5 +1,5 @@
 //! 11: "A foreign state has ..". One clause for each part of document 01's sentence, in its order, and
-//! one for A.2's (Foreign.antt).
+//! one each for A.2's and A.4's (Foreign.antt).
 use crate::state::{
     Edge, Event, State, MOST_EDGES, MOST_PAYLOAD, MOST_PENDING, MOST_PROCESSES, TOP,
 };
@@ -35,6 +35,20 @@ fn bad_edges(edges: &[Edge]) -> bool {
 }
 
 impl Rules {
+    /// A.4: "A state with an edge lookahead of 0 is foreign."
+    fn zero_lookahead(self, edges: &[Edge]) -> bool {
+        let looked_at = match self.variant() {
+            Variant::ForeignWithoutEdgeLookahead => 0..0,
+            Variant::ForeignFirstEdgeLookahead => 0..edges.len().min(1),
+            Variant::ForeignLastEdgeLookaheadUnseen => 0..edges.len().saturating_sub(1),
+            _ => 0..edges.len(),
+        };
+        edges[looked_at].iter().any(|e| match self.variant() {
+            Variant::ForeignEdgeLookaheadByLowerHalf => e.lookahead as u64 == 0,
+            _ => e.lookahead == 0,
+        })
+    }
+
     pub fn foreign(self, s: &State) -> bool {
         let by_process = |pair: &[Event]| pair[0].destination < pair[1].destination;
         let at_top = s.stored.is_some_and(|stored| stored.horizon == TOP);
@@ -54,6 +68,7 @@ impl Rules {
             || (!s.batch.is_empty() && !s.running)
             || !s.batch.windows(2).all(by_process)
             || self.wrong_record(s)
+            || self.zero_lookahead(&s.edges)
             || s.horizons.len() as u64 != s.n
             || s.inbound.len() as u64 != s.n
     }

@@ -33,6 +33,18 @@ pub fn malformed(batch: &[Event], mask: u64, xs: &[Emission]) -> bool {
 }
 
 impl Rules {
+    /// A.4: "minimum ticks and 31 use it": the lookahead of the edge that an emission of p goes along.
+    fn lookahead_along(self, s: &State, p: u32, m: &Message) -> u128 {
+        let mut edges = s.edges.iter();
+        let edge = match self.variant() {
+            Variant::MinimumByPlan => None,
+            Variant::MinimumByFirstInbound => edges.find(|e| e.destination == m.destination),
+            Variant::MinimumByFirstOfRow => edges.find(|e| e.source == p),
+            _ => edges.find(|e| e.source == p && e.destination == m.destination),
+        };
+        edge.map_or(s.lookahead, |e| e.lookahead)
+    }
+
     /// "The minimum tick is the event's tick for an emission to oneself, else that tick + L." None
     /// above the largest tick.
     fn minimum(self, lookahead: u128, p: u32, tick: u128, m: &Message) -> Option<u128> {
@@ -54,8 +66,13 @@ impl Rules {
         if !route(&s.edges, p, m.destination) {
             return Some(Refusal::OutboundRouteMissing(p, m.destination));
         }
-        let Some(minimum) = self.minimum(s.lookahead, p, tick, m) else {
-            return Some(Refusal::LookaheadOverflow(p, tick, s.lookahead));
+        let lookahead = self.lookahead_along(s, p, m);
+        let Some(minimum) = self.minimum(lookahead, p, tick, m) else {
+            let told = match self.variant() {
+                Variant::OverflowTellsPlan => s.lookahead,
+                _ => lookahead,
+            };
+            return Some(Refusal::LookaheadOverflow(p, tick, told));
         };
         let below = match self.variant() {
             Variant::MinimumRefused => m.tick <= minimum,

@@ -15,12 +15,14 @@ pub enum Reply {
 
 /// Private fields set by hand after build, to reach states that a list of calls does not reach.
 /// Bounds are in the order of build's list. A.2's record is that of these bounds, but for the process
-/// in `record`, if any: such a state is foreign, and the original cannot have it.
+/// in `record`, if any, and the edge with the number `lookahead`, if any, has a lookahead of 0: such a state is
+/// foreign, and the original cannot have it.
 #[derive(Clone, Debug, Eq, PartialEq)]
 pub struct Odd {
     pub bounds: Vec<u128>,
     pub horizons: Vec<u128>,
     pub record: Option<(usize, u128)>,
+    pub lookahead: Option<usize>,
     pub next: u64,
     pub gvt: u128,
     pub initial: bool,
@@ -105,6 +107,10 @@ impl Host {
     pub fn set(&mut self, odd: &Odd) {
         for (edge, &bound) in self.state.edges.iter_mut().zip(&odd.bounds) {
             edge.bound = bound;
+        }
+        let zero = odd.lookahead.and_then(|at| self.state.edges.get_mut(at));
+        if let Some(edge) = zero {
+            edge.lookahead = 0;
         }
         let right = Rules::RIGHT.inbound_of(self.state.n, &self.state.edges);
         self.state.inbound = with_record(right, odd.record);

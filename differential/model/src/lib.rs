@@ -1,5 +1,5 @@
-//! The rules of document 01 as a plain state machine, definition by definition as in
-//! crates/rules/specs, and a list of programs that are wrong in one place each.
+//! The rules of document 01, with what document 02 has amended so far, as a plain state machine, definition
+//! by definition as in crates/rules/specs, and a list of programs that are wrong in one place each.
 //!
 //! Ids have 32 bits, ticks 128, counts 64; where the definitions take numbers of any size, nothing
 //! here overflows: sums are checked or taken in a wider type.
@@ -22,7 +22,7 @@ mod step;
 mod variant;
 
 pub use answers::{Answer, Entity, Reading, Refusal, Value};
-pub use build::{Made, Setup};
+pub use build::{lookahead_words, Made, Setup};
 pub use calls::{Call, Emission, Out};
 pub use hand_back::malformed;
 pub use host::{with_record, Host, List, Odd, Reply, Scenario, Task};

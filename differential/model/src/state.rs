@@ -103,11 +103,12 @@ impl Event {
     }
 }
 
-/// "Each edge has a bound".
+/// "Each edge has a bound", and A.4: "Each edge gets its own lookahead".
 #[derive(Clone, Copy, Debug, Eq, PartialEq)]
 pub struct Edge {
     pub source: u32,
     pub destination: u32,
+    pub lookahead: u128,
     pub bound: u128,
 }
 

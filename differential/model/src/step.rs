@@ -81,12 +81,23 @@ impl Rules {
         self.take(s, exclusive(at.horizon), room)
     }
 
+    /// A.4: "edge bounds .. use it".
+    fn lookahead_of(self, s: &State, edge: &Edge) -> u128 {
+        let mut row = s.edges.iter().filter(|e| e.source == edge.source);
+        match self.variant() {
+            Variant::BoundByPlan => s.lookahead,
+            Variant::BoundByFirstOfRow => row.next().map_or(s.lookahead, |e| e.lookahead),
+            _ => edge.lookahead,
+        }
+    }
+
     /// "each edge bound from s rises to min(H, min(safe(s), first pending tick or H) + L), or to H
     /// on overflow."
-    fn bound_to(self, s: &State, inbound: &[u128], h: u128, p: u32) -> u128 {
-        let aim = self.aim(s, inbound, h, p);
-        match aim.checked_add(s.lookahead) {
-            None if self.wrong(Variant::OverflowWraps) => aim.wrapping_add(s.lookahead),
+    fn bound_to(self, s: &State, inbound: &[u128], h: u128, edge: &Edge) -> u128 {
+        let aim = self.aim(s, inbound, h, edge.source);
+        let lookahead = self.lookahead_of(s, edge);
+        match aim.checked_add(lookahead) {
+            None if self.wrong(Variant::OverflowWraps) => aim.wrapping_add(lookahead),
             None => h,
             Some(sum) if self.wrong(Variant::BoundNotCapped) => sum,
             Some(sum) => sum.min(h),
@@ -100,7 +111,7 @@ impl Rules {
             let late = self.wrong(Variant::SafeReadLate);
             let late = late.then(|| self.inbound_of(s.n, &edges));
             let inbound = late.as_ref().unwrap_or(&s.inbound);
-            let to = self.bound_to(s, inbound, h, edges[at].source);
+            let to = self.bound_to(s, inbound, h, &edges[at]);
             edges[at].bound = match self.variant() {
                 Variant::BoundFalls => to,
                 _ => edges[at].bound.max(to),

@@ -37,8 +37,13 @@ fn process(id: u32, replies: &[Vec<Reply>]) -> (LpId, Scripted) {
 }
 
 /// The runtime, or the refusal and who gave it. The original cannot be given what 3 and 5 refuse: its
-/// maps have each id once. 2 and 4 come before them, so it is asked about those first.
+/// maps have each id once. 2 and 4 come before them, so it is asked about those first. Nor can it be given
+/// edges with lookaheads of their own: every edge has to carry the plan's.
 pub fn build(setup: &Setup, replies: &[Vec<Reply>]) -> Result<Runtime, (Refusal, Origin)> {
+    assert!(
+        setup.is_uniform(),
+        "the original has one lookahead for all edges: {setup:?}"
+    );
     if setup.n > MOST_PROCESSES {
         return Err((Refusal::InvalidPartitionCount(setup.n), Origin::Rules));
     }

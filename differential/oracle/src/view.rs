@@ -40,12 +40,14 @@ pub fn pending(runtime: &Runtime) -> Vec<Event> {
         .collect()
 }
 
+/// The original has one lookahead, the plan's, for every edge.
 fn edges(runtime: &Runtime) -> Vec<Edge> {
     let edges = runtime.inside_edges().into_iter();
     edges
         .map(|(source, destination, bound)| Edge {
             source: source.0,
             destination: destination.0,
+            lookahead: runtime.inside_lookahead().ticks(),
             bound: bound.ticks(),
         })
         .collect()

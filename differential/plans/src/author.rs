@@ -1,14 +1,16 @@
 //! Replies that fit: made up while the rules run, and noted.
-use crate::file::{Event, Plan};
+use crate::file::{Edge, Event, Plan};
+use crate::rules::hosted;
+use crate::runtime::Handed;
 use generate::Dice;
-use model::{Host, Reply, Rules, Setup};
 
-/// A run that takes more calls is left as it is.
-const MOST_CALLS: usize = 4_000;
+/// A run that takes more steps is left as it is.
+const MOST_STEPS: usize = 4_000;
 
 struct Author<'a> {
     dice: &'a mut Dice,
-    setup: &'a Setup,
+    n: u64,
+    edges: Vec<Edge>,
     /// How many events may still be emitted.
     left: usize,
     /// One in so many emissions is faulty; none for 0.
@@ -29,28 +31,21 @@ pub fn long_payload(dice: &mut Dice) -> Vec<u8> {
 }
 
 impl Author<'_> {
-    /// Itself or one of its neighbours.
-    fn destination(&mut self, p: u32) -> u32 {
-        let rows = self.setup.rows();
-        let row = rows
-            .iter()
-            .find(|row| row.0 == p)
-            .map_or(&[][..], |row| row.1);
+    /// Itself or one of its neighbours, and how much later an emission has to be there.
+    fn destination(&mut self, p: u32) -> (u32, u128) {
+        let mine = self.edges.iter().filter(|edge| edge.source == p);
+        let row: Vec<Edge> = mine.copied().collect();
         if row.is_empty() || self.dice.one_in(3) {
-            return p;
+            return (p, 0);
         }
-        self.dice.pick(row)
+        let edge = self.dice.pick(&row);
+        (edge.destination, edge.lookahead)
     }
 
     /// An emission that is accepted in answer to the event.
-    fn emission(&mut self, event: &model::Event) -> Event {
-        let source = event.destination;
-        let destination = self.destination(source);
-        let delay = if destination == source {
-            0
-        } else {
-            self.setup.lookahead
-        };
+    fn emission(&mut self, event: &Handed) -> Event {
+        let source = event.process;
+        let (destination, delay) = self.destination(source);
         let later = self.dice.pick(&[0, 0, 0, 1, 1, 2, 5]);
         Event {
             source,
@@ -61,8 +56,8 @@ impl Author<'_> {
     }
 
     /// One of 26 and 28 to 32, perhaps.
-    fn spoil(&mut self, event: &model::Event, e: &mut Event) {
-        let n = self.setup.n;
+    fn spoil(&mut self, event: &Handed, e: &mut Event) {
+        let n = self.n;
         match self.dice.below(6) {
             0 => e.source = self.dice.below(64) as u32,
             1 => e.destination = (n + self.dice.below(2)).min(63) as u32,
@@ -73,7 +68,7 @@ impl Author<'_> {
         }
     }
 
-    fn reply(&mut self, event: &model::Event) -> Reply {
+    fn reply(&mut self, event: &Handed) -> Vec<Event> {
         let count = self.dice.pick(&[0, 0, 1, 1, 2, 3]).min(self.left);
         self.left -= count;
         let mut emissions = vec![];
@@ -84,31 +79,23 @@ impl Author<'_> {
             }
             emissions.push(emission);
         }
-        let messages = emissions.iter().map(Event::message).collect();
-        self.replies.push((event.destination, emissions));
-        Reply::Emits(messages)
+        self.replies.push((event.process, emissions.clone()));
+        emissions
     }
 }
 
 /// Gives a plan the replies that its run needs, at most so many emissions in all. Replies of different
 /// processes come to stand in the order in which they are used.
 pub fn add_replies(dice: &mut Dice, plan: &mut Plan, most: usize, faults: u64) {
-    let setup = plan.setup();
-    let Ok(mut host) = Host::build(Rules::RIGHT, &setup) else {
-        return;
-    };
-    for event in &plan.initial {
-        host.call(&model::Call::AddInitial(event.message()));
-    }
     let mut author = Author {
         dice,
-        setup: &setup,
+        n: plan.n,
+        edges: plan.edges.clone(),
         left: most,
         faults,
         replies: vec![],
     };
-    let mut reply = |_: &Host, event: &model::Event| author.reply(event);
-    host.run(plan.horizon, plan.budget, MOST_CALLS, &mut reply);
+    hosted(plan, MOST_STEPS, &mut |event, _| author.reply(event));
     plan.replies = author.replies;
     plan.replies.truncate(1_023);
 }

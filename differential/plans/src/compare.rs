@@ -1,10 +1,10 @@
 //! Many files, ours against the judge's answers.
 use crate::damage::damaged;
 use crate::file::{decode, encode, Plan};
-use crate::judge::{judge, Judged};
+use crate::judge::{judge, with_carried, By, Judged};
 use crate::listing::Answered;
 use crate::ours::{by_driver, by_program, by_tool};
-use crate::random::{any_plan, long_plan};
+use crate::random::{any_plan, long_plan, Kind};
 use crate::rules;
 use crate::shrink::smallest;
 use crate::tally::Tally;
@@ -13,20 +13,18 @@ use std::path::PathBuf;
 use std::sync::atomic::{AtomicBool, AtomicU64, Ordering};
 use std::time::{Duration, Instant};
 
-/// So many plans go to the driver at a time.
-const BATCH: u64 = 500;
+/// So many plans of each kind go to the driver at a time.
+const BATCH: u64 = 250;
 /// In each batch, so many plans are also damaged.
 const DAMAGED: u64 = 20;
-/// In each batch, so many files are given to each program.
+/// In each batch, about so many files are given to each program.
 const BY_PROGRAM: usize = 10;
 /// In each batch, so many files that are not damaged are given to `tools/plan`, and all that are.
 const BY_TOOL: usize = 20;
-/// The driver tries other slices on one in so many files.
-const EVERY: u64 = 10;
-/// One in so many plans takes as many rounds as there may be.
+/// The driver tries other slices on one in so many files. It is odd: the two kinds take turns.
+const EVERY: u64 = 11;
+/// One in so many plans of a kind takes as many rounds as there may be.
 const LONG: u64 = 4_000;
-/// The model, which copies its state for each call, is not asked about longer runs.
-const MOST_ROUNDS: u128 = 2_000;
 
 /// What is compared with what, and when it ends.
 pub struct Work {
@@ -34,6 +32,7 @@ pub struct Work {
     pub programs: Vec<PathBuf>,
     pub tool: PathBuf,
     pub seed: u64,
+    /// So many plans of each kind.
     pub count: u64,
     pub until: Option<Duration>,
 }
@@ -60,24 +59,33 @@ fn dice(seed: u64, number: u64, part: u64) -> Dice {
     Dice::new(seed.wrapping_mul(1 << 34) ^ (number * 2 + part))
 }
 
+/// Every other plan has edges with different lookaheads.
+fn kind(number: u64) -> Kind {
+    match number % 2 {
+        0 => Kind::Uniform,
+        _ => Kind::Mixed,
+    }
+}
+
 /// The plan with this number.
 pub fn numbered(seed: u64, number: u64) -> Plan {
     let mut dice = dice(seed, number, 0);
-    if number % LONG == LONG / 2 {
-        return long_plan(&mut dice);
+    if number / 2 % LONG == LONG / 2 {
+        return long_plan(&mut dice, kind(number));
     }
-    any_plan(&mut dice)
+    any_plan(&mut dice, kind(number))
 }
 
 /// The files of a batch; how many of them are whole.
 fn files(seed: u64, numbers: std::ops::Range<u64>) -> (Vec<File>, usize) {
+    let numbers = 2 * numbers.start..2 * numbers.end;
     let whole = numbers
         .clone()
         .map(|number| (number, encode(&numbered(seed, number)).0));
     let mut all: Vec<(u64, Vec<u8>)> = whole.collect();
     let count = all.len();
     for number in numbers.take(DAMAGED as usize) {
-        let files = damaged(&mut dice(seed, number, 1));
+        let files = damaged(&mut dice(seed, number, 1), kind(number));
         all.extend(files.into_iter().map(|bytes| (number, bytes)));
     }
     let judged = all
@@ -86,20 +94,19 @@ fn files(seed: u64, numbers: std::ops::Range<u64>) -> (Vec<File>, usize) {
     (judged.collect(), count)
 }
 
-/// Whether the model answers a file otherwise than the judge, who asked the original.
-fn rules_differ(file: &File) -> Option<String> {
+/// Whether the model answers a file otherwise than the original. Where it is itself the judge, and all
+/// edges carry one lookahead, the original is asked with that one.
+fn rules_differ(file: &File, tally: &mut Tally) -> Option<String> {
     let plan = decode(&file.bytes).ok()?;
-    let short = |plan: &Plan| plan.horizon / plan.lookahead.max(1) <= MOST_ROUNDS;
-    if !short(&plan) {
-        return None;
-    }
-    let rules = rules::ran(&plan).answered;
-    (rules != file.judged.answered).then(|| {
-        let judge = &file.judged.answered;
-        format!(
-            "DIFFERENCE, file {}: the Rust\n{judge:?}\ndocument 01\n{rules:?}",
-            file.number
-        )
+    let judged = &file.judged.answered;
+    let (rust, rules) = match file.judged.by {
+        By::Model => (with_carried(&plan)?, judged.clone()),
+        By::Rust | By::Documents => (judged.clone(), rules::ran(&plan).answered),
+    };
+    tally.count_carried(file.judged.by);
+    (rules != rust).then(|| {
+        let number = file.number;
+        format!("DIFFERENCE, file {number}: the Rust\n{rust:?}\nthe model\n{rules:?}")
     })
 }
 
@@ -147,7 +154,8 @@ fn with_driver(driver: &PathBuf, files: &[File]) -> Option<String> {
 
 /// "A program prints it from standard input, and nothing on 37 to 39".
 fn with_program(program: &PathBuf, files: &[File]) -> Option<String> {
-    let each = files.len().div_ceil(BY_PROGRAM).max(1);
+    // Odd, since the two kinds take turns.
+    let each = files.len().div_ceil(BY_PROGRAM) | 1;
     for file in files.iter().step_by(each) {
         let expected = match &file.judged.answered {
             Answered::Number(_) => "",
@@ -198,7 +206,7 @@ fn one_batch(work: &Work, numbers: std::ops::Range<u64>, tally: &mut Tally) -> O
     let drivers = work.drivers.iter();
     files
         .iter()
-        .find_map(rules_differ)
+        .find_map(|file| rules_differ(file, tally))
         .or_else(|| {
             drivers
                 .clone()

@@ -1,6 +1,6 @@
 //! Files that are damaged: cut off, with other bits, with more bytes, with padding that is set, too large.
 use crate::file::{encode, Plan, MOST_BYTES};
-use crate::random::{any_plan, filled};
+use crate::random::{any_plan, filled, Kind};
 use generate::Dice;
 
 fn flipped(file: &[u8], bit: usize) -> Vec<u8> {
@@ -40,8 +40,8 @@ fn large(dice: &mut Dice, plan: &Plan) -> Vec<Vec<u8>> {
 }
 
 /// Damaged files made from one plan: every truncation of a small one, each padding bit, some bits flipped.
-pub fn damaged(dice: &mut Dice) -> Vec<Vec<u8>> {
-    let plan = any_plan(dice);
+pub fn damaged(dice: &mut Dice, kind: Kind) -> Vec<Vec<u8>> {
+    let plan = any_plan(dice, kind);
     let (file, padding) = encode(&plan);
     let mut all = match file.len() {
         0..=300 if dice.one_in(4) => (0..file.len()).map(|at| file[..at].to_vec()).collect(),

@@ -1,4 +1,4 @@
-//! Plan files: document 02, A.1, its first half.
+//! Plan files: document 02, A.1, its first half, with A.4's edges.
 use model::{Message, Payload, Setup};
 
 /// "38 file above 16,384 bytes, checked first"
@@ -13,13 +13,20 @@ pub struct Event {
     pub payload: Vec<u8>,
 }
 
+#[derive(Clone, Copy, Debug, Eq, PartialEq)]
+pub struct Edge {
+    pub source: u32,
+    pub destination: u32,
+    pub lookahead: u128,
+}
+
 #[derive(Clone, Debug, Default, Eq, PartialEq)]
 pub struct Plan {
     pub n: u64,
     pub lookahead: u128,
     pub horizon: u128,
     pub budget: u64,
-    pub edges: Vec<(u32, u32)>,
+    pub edges: Vec<Edge>,
     pub initial: Vec<Event>,
     pub replies: Vec<(u32, Vec<Event>)>,
 }
@@ -65,12 +72,22 @@ impl Bits<'_> {
         Ok(self.field(6)? as u32)
     }
 
-    fn edge(&mut self) -> Result<(u32, u32), Unread> {
+    fn route(&mut self) -> Result<(u32, u32), Unread> {
         Ok((self.id()?, self.id()?))
     }
 
+    /// "The file's edges gain 128 bits, behind the destination"
+    fn edge(&mut self) -> Result<Edge, Unread> {
+        let (source, destination) = self.route()?;
+        Ok(Edge {
+            source,
+            destination,
+            lookahead: self.field(128)?,
+        })
+    }
+
     fn event(&mut self) -> Result<Event, Unread> {
-        let (source, destination) = self.edge()?;
+        let (source, destination) = self.route()?;
         let tick = self.field(128)?;
         let length = self.field(5)?;
         let payload = (0..length).map(|_| Ok(self.field(8)? as u8));
@@ -135,7 +152,7 @@ impl Written {
             .extend((0..width).rev().map(|at| value >> at & 1 == 1));
     }
 
-    fn edge(&mut self, source: u32, destination: u32) {
+    fn route(&mut self, source: u32, destination: u32) {
         self.field(6, u128::from(source));
         self.field(6, u128::from(destination));
     }
@@ -143,7 +160,7 @@ impl Written {
     fn events(&mut self, events: &[Event]) {
         self.field(10, events.len() as u128);
         for event in events {
-            self.edge(event.source, event.destination);
+            self.route(event.source, event.destination);
             self.field(128, event.tick);
             self.field(5, event.payload.len() as u128);
             for &byte in &event.payload {
@@ -170,8 +187,9 @@ pub fn encode(plan: &Plan) -> (Vec<u8>, usize) {
     to.field(128, plan.horizon);
     to.field(64, u128::from(plan.budget));
     to.field(10, plan.edges.len() as u128);
-    for &(source, destination) in &plan.edges {
-        to.edge(source, destination);
+    for edge in &plan.edges {
+        to.route(edge.source, edge.destination);
+        to.field(128, edge.lookahead);
     }
     to.events(&plan.initial);
     to.field(10, plan.replies.len() as u128);
@@ -185,15 +203,36 @@ pub fn encode(plan: &Plan) -> (Vec<u8>, usize) {
 }
 
 impl Plan {
+    /// "Equality with the Rust covers runtimes whose edges all carry the plan's lookahead"
+    pub fn uniform(&self) -> bool {
+        self.edges.iter().all(|e| e.lookahead == self.lookahead)
+    }
+
+    /// The lookahead that all edges carry, if it is one and not the plan's. It is all that a run reads
+    /// of lookaheads.
+    pub fn carried(&self) -> Option<u128> {
+        let first = self.edges.first()?.lookahead;
+        let one = self.edges.iter().all(|e| e.lookahead == first);
+        (one && first != self.lookahead).then_some(first)
+    }
+
+    /// The least edge lookahead, "or the plan's if there is no edge".
+    pub fn least_lookahead(&self) -> u128 {
+        let each = self.edges.iter().map(|e| e.lookahead);
+        each.min().unwrap_or(self.lookahead)
+    }
+
+    /// What the original's build takes of a plan whose edges carry the plan's lookahead.
+    ///
     /// "Every process has a row, and so has any other source of an edge". Edges of one source that
     /// stand side by side make a row; where sources fall, rows do not rise, and build says 5.
     pub fn setup(&self) -> Setup {
         let ids = 0..self.n as u32;
         let mut rows: Vec<(u32, u64)> = vec![];
-        for &(source, _) in &self.edges {
+        for edge in &self.edges {
             match rows.last_mut() {
-                Some(row) if row.0 == source => row.1 += 1,
-                _ => rows.push((source, 1)),
+                Some(row) if row.0 == edge.source => row.1 += 1,
+                _ => rows.push((edge.source, 1)),
             }
         }
         let rowless = ids.clone().filter(|id| rows.iter().all(|row| row.0 != *id));
@@ -208,13 +247,15 @@ impl Plan {
             ids: ids.collect(),
             sources: rows.iter().map(|row| row.0).collect(),
             counts: rows.iter().map(|row| row.1).collect(),
-            destinations: self.edges.iter().map(|edge| edge.1).collect(),
+            destinations: self.edges.iter().map(|edge| edge.destination).collect(),
+            lookaheads: model::lookahead_words(self.edges.iter().map(|edge| edge.lookahead)),
         }
     }
 
-    /// "39 floor(horizon / lookahead) above 65,536". Lookahead 0 never comes here: build refuses it.
+    /// "39 floor(horizon / lookahead) above 65,536", "in 39, read the least edge lookahead, or the
+    /// plan's if there is no edge". A lookahead of 0 never comes here: build refuses it.
     pub fn too_long(&self) -> bool {
-        self.horizon / self.lookahead > 65_536
+        self.horizon / self.least_lookahead() > 65_536
     }
 
     /// What process p answers with, in turn.

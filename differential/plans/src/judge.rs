@@ -1,28 +1,49 @@
 //! The original as the host of a plan file: `new`, `schedule_initial` and `run_until_with_budget` as
 //! they are, with handlers that answer from the file.
 //!
-//! Lines, GVT, rounds and null messages are always the original's, and so is the number wherever it
-//! has one. It has none for 37 to 39, 5 and 1 above 64, 17 and 18; nor for 26: there its handler fails,
-//! so that it loses the batch as document 01 says, and its own number (27, or that of an emission of an
-//! earlier process) gives way to 26.
+//! It has one lookahead for all edges: files whose edges carry other ones than the plan's are judged by
+//! the rules alone. Of all others, lines, GVT, rounds and null messages are the original's, and so is the
+//! number wherever it has one. It has none for 37 to 39, 5 and 1 above 64, 17 and 18; nor for 26: there
+//! its handler fails, so that it loses the batch as document 01 says, and its own number (27, or that of
+//! an emission of an earlier process) gives way to 26.
 use crate::file::{decode, Plan};
 use crate::listing::{end_line, event_line, Answered};
 use crate::rules;
+use crate::runtime::Handed;
 use model::{Message, Refusal, Reply, MOST_PAYLOAD, MOST_PENDING};
 use oracle::{build, refusal, schedule_initial, tick, Origin, Runtime, Scripted};
 use std::thread::ThreadId;
 
-/// What is answered, and who gave the number.
+/// Who judged a file.
+#[derive(Clone, Copy, Debug, Eq, PartialEq)]
+pub enum By {
+    /// The original, the number included.
+    Rust,
+    /// The original, but for the number; or nobody, where the bytes are no plan.
+    Documents,
+    /// The rules as a model: edges carry other lookaheads than the plan's.
+    Model,
+}
+
 #[derive(Clone, Debug, Eq, PartialEq)]
 pub struct Judged {
     pub answered: Answered,
-    pub by: Origin,
+    pub by: By,
 }
 
-fn by_rules(answered: Answered) -> Judged {
+impl From<Origin> for By {
+    fn from(origin: Origin) -> Self {
+        match origin {
+            Origin::Rust => By::Rust,
+            Origin::Rules => By::Documents,
+        }
+    }
+}
+
+fn by_documents(answered: Answered) -> Judged {
     Judged {
         answered,
-        by: Origin::Rules,
+        by: By::Documents,
     }
 }
 
@@ -83,12 +104,19 @@ fn listed(runtime: &Runtime, end: usize, by: Origin) -> Judged {
     let report = runtime.report();
     let handled = in_order(runtime);
     let handled = handled.iter().take(report.processed_events as usize);
-    let mut text: String = handled.map(event_line).collect();
+    let line = |event: &Message| {
+        event_line(&Handed {
+            process: event.destination,
+            tick: event.tick,
+            source: event.source,
+        })
+    };
+    let mut text: String = handled.map(line).collect();
     let gvt = runtime.gvt().ticks();
     text.push_str(&end_line(end, gvt, report.rounds, report.null_messages));
     Judged {
         answered: Answered::Listed { text, end },
-        by,
+        by: by.into(),
     }
 }
 
@@ -124,7 +152,9 @@ fn run(runtime: &mut Runtime, plan: &Plan, overfull: Option<(u32, usize)>) -> Ju
 }
 
 /// "Build comes first, then 39, the initial events in turn, then the run; the first refusal ends it."
-pub fn rehearsed(plan: &Plan) -> Judged {
+/// A plan whose edges all carry its lookahead.
+pub fn by_original(plan: &Plan) -> Judged {
+    assert!(plan.uniform(), "the original has one lookahead");
     let mut replies = replies(plan);
     let overfull = overfull(plan);
     if let Some(place) = overfull {
@@ -136,11 +166,14 @@ pub fn rehearsed(plan: &Plan) -> Judged {
             let end = refused.number();
             let text = end_line(end, 0, 0, 0);
             let answered = Answered::Listed { text, end };
-            return Judged { answered, by };
+            return Judged {
+                answered,
+                by: by.into(),
+            };
         }
     };
     if plan.too_long() {
-        return by_rules(Answered::Number(39));
+        return by_documents(Answered::Number(39));
     }
     for event in &plan.initial {
         if let Err((refused, by)) = schedule_initial(&mut runtime, &event.message()) {
@@ -150,10 +183,35 @@ pub fn rehearsed(plan: &Plan) -> Judged {
     run(&mut runtime, plan, overfull)
 }
 
+/// What is answered to a plan.
+pub fn rehearsed(plan: &Plan) -> Judged {
+    if plan.uniform() {
+        return by_original(plan);
+    }
+    Judged {
+        answered: rules::ran(plan).answered,
+        by: By::Model,
+    }
+}
+
 /// What is answered to these bytes.
 pub fn judge(bytes: &[u8]) -> Judged {
     match decode(bytes) {
-        Err(unread) => by_rules(Answered::Number(unread as u64)),
+        Err(unread) => by_documents(Answered::Number(unread as u64)),
         Ok(plan) => rehearsed(&plan),
     }
+}
+
+/// Where all edges carry one lookahead that is not the plan's: what the original answers with that one as
+/// the plan's. One of 0 is another refusal there.
+pub fn with_carried(plan: &Plan) -> Option<Answered> {
+    let carried = plan.carried()?;
+    if plan.lookahead == 0 || carried == 0 {
+        return None;
+    }
+    let other = Plan {
+        lookahead: carried,
+        ..plan.clone()
+    };
+    Some(by_original(&other).answered)
 }

@@ -1,12 +1,9 @@
 //! Listings: document 02, A.1, its second half.
-use model::Message;
+use crate::runtime::Handed;
 
 /// "process, tick as 32 lower-case hexadecimal digits, source"
-pub fn event_line(event: &Message) -> String {
-    format!(
-        "{} {:032x} {}\n",
-        event.destination, event.tick, event.source
-    )
+pub fn event_line(event: &Handed) -> String {
+    format!("{} {:032x} {}\n", event.process, event.tick, event.source)
 }
 
 /// "`end`, refusal number or 0, GVT in 32 digits, rounds, null messages"

@@ -1,9 +1,12 @@
-//! The original as the host of plan files, and ours beside it.
+//! The original as the host of plan files, a model of the rules where edges carry different lookaheads, and ours beside them.
 //!
 //!     plan-files listing FILE          the listing of a file; exit status 37 to 39 where it has none
-//!     plan-files write SEED N DIR      the first N generated plans, a file each
+//!     plan-files by FILE               who judges it: 'Rust', or 'model' where its edges carry other lookaheads than the plan's
+//!     plan-files write SEED N DIR      the first N generated plans, a file each; every other one has edges with different
+//!                                      lookaheads
 //!     plan-files compare --tool FILE [--driver FILE].. [--program FILE].. [--seconds S] [--count N] [--seed SEED]
-//!                                      ours against the judge, on N files or for S seconds
+//!                                      ours against the judge, on N plans whose edges carry the plan's lookahead and N
+//!                                      whose edges do not, or for S seconds
 //!
 //! Exit status of compare: 0 no difference, 1 a difference, 2 nothing was compared.
 
@@ -16,12 +19,16 @@ mod listing;
 mod ours;
 mod random;
 mod rules;
+mod runtime;
 mod shrink;
 mod tally;
 #[cfg(test)]
 mod tests;
+#[cfg(test)]
+mod two_models;
 
 use compare::{compare, numbered, Work};
+use judge::By;
 use listing::Answered;
 use std::path::Path;
 use std::process::ExitCode;
@@ -38,6 +45,13 @@ fn listing(path: &str) -> Option<ExitCode> {
             ExitCode::SUCCESS
         }
     })
+}
+
+fn by(path: &str) -> Option<ExitCode> {
+    let bytes = std::fs::read(path).ok()?;
+    let by = judge::judge(&bytes).by;
+    println!("{}", if by == By::Model { "model" } else { "Rust" });
+    Some(ExitCode::SUCCESS)
 }
 
 fn write(seed: &str, count: &str, folder: &str) -> Option<ExitCode> {
@@ -78,12 +92,13 @@ fn main() -> ExitCode {
     let words: Vec<&str> = words.iter().map(String::as_str).collect();
     let done = match words[..] {
         ["listing", path] => listing(path),
+        ["by", path] => by(path),
         ["write", seed, count, folder] => write(seed, count, folder),
         ["compare", ..] => work(&words[1..]).map(|work| ExitCode::from(u8::from(!compare(&work)))),
         _ => None,
     };
     done.unwrap_or_else(|| {
-        println!("usage: plan-files listing FILE | write SEED N DIR | compare --tool FILE [--driver FILE].. [--program FILE].. [--seconds S] [--count N] [--seed SEED]");
+        println!("usage: plan-files listing FILE | by FILE | write SEED N DIR | compare --tool FILE [--driver FILE].. [--program FILE].. [--seconds S] [--count N] [--seed SEED]");
         ExitCode::from(2)
     })
 }

@@ -1,20 +1,34 @@
 //! Plans from a seed: small ones where everything collides, ticks near 2^128, 39 on both sides, 64
-//! processes with 512 edges, full queues; then spoilt in up to three places.
+//! processes with 512 edges, full queues; then spoilt in up to three places. Two kinds: edges that all
+//! carry the plan's lookahead, and edges with different ones.
 use crate::author::{add_replies, long_payload, payload};
-use crate::file::{encode, Event, Plan, MOST_BYTES};
+use crate::file::{encode, Edge, Event, Plan, MOST_BYTES};
 use generate::Dice;
 
 const TOP: u128 = u128::MAX;
+const HALF: u128 = 1 << 127;
+const AT_TOP: [u128; 6] = [HALF - 4, HALF, TOP - 3, TOP - 8, TOP / 5, 1];
 
 /// A file's ids have 6 bits.
 fn id(number: u64) -> u32 {
     number.min(63) as u32
 }
 
+/// What lookaheads the edges carry.
+#[derive(Clone, Copy, Debug, Eq, PartialEq)]
+pub enum Kind {
+    /// All the plan's, so that the original can judge it.
+    Uniform,
+    /// Different ones, or all the same and not the plan's.
+    Mixed,
+}
+
 /// Where ticks lie, how edges go, and how much happens.
 struct Shape {
     n: u32,
     lookahead: u128,
+    /// Edges of a mixed plan may carry one of these, or a little more.
+    others: &'static [u128],
     low: u128,
     spread: u64,
     /// Edges go from lower to higher ids only, so that every run takes few rounds.
@@ -30,6 +44,7 @@ fn small(dice: &mut Dice) -> Shape {
     Shape {
         n: 1 + dice.below(4) as u32,
         lookahead: 1 + u128::from(dice.below(4)),
+        others: &[1, 1, 1, 1, 2, 2, 4, 8, HALF, TOP - 3],
         low: 0,
         spread: 4 + dice.below(9),
         forward: dice.one_in(4),
@@ -39,13 +54,14 @@ fn small(dice: &mut Dice) -> Shape {
     }
 }
 
-/// Ticks near 2^128, with lookaheads that 39 lets pass.
+/// Ticks near 2^128, with lookaheads that 39 lets pass, but for one of the others.
 fn at_top(dice: &mut Dice) -> Shape {
     let few = u128::from(dice.below(6));
     let half = 1u128 << 127;
     let lookahead = dice.pick(&[half - 3 + few, half, TOP - few, TOP / 5, (1 << 112) + few]);
     Shape {
         lookahead,
+        others: &AT_TOP,
         low: dice.pick(&[TOP - 12, half - 4, TOP - lookahead - 4.min(TOP - lookahead)]),
         spread: 14,
         forward: lookahead < 1 << 120 || dice.one_in(2),
@@ -65,6 +81,7 @@ fn ring(dice: &mut Dice) -> Shape {
     Shape {
         n: 64,
         lookahead: 2,
+        others: &[1, 2, 3],
         initial: 20 + dice.below(200),
         emissions: dice.below(300),
         forward: false,
@@ -105,7 +122,7 @@ fn any_shape(dice: &mut Dice) -> Shape {
     }
 }
 
-fn edges(dice: &mut Dice, shape: &Shape) -> Vec<(u32, u32)> {
+fn routes(dice: &mut Dice, shape: &Shape) -> Vec<(u32, u32)> {
     let n = shape.n;
     if n == 64 {
         let next = |source| (1..=8).map(move |step| (source, (source + step) % 64));
@@ -123,7 +140,40 @@ fn edges(dice: &mut Dice, shape: &Shape) -> Vec<(u32, u32)> {
     edges
 }
 
+/// The edges, in a mixed plan each with a lookahead of its own or all with one.
+fn edges(dice: &mut Dice, shape: &Shape, kind: Kind) -> Vec<Edge> {
+    let mut routes = routes(dice, shape);
+    if kind == Kind::Mixed && routes.is_empty() {
+        routes.push((0, 1));
+    }
+    let one = dice.one_in(5).then(|| shape.edge_lookahead(dice));
+    let mut edge = |(source, destination)| {
+        let lookahead = match kind {
+            Kind::Uniform => shape.lookahead,
+            Kind::Mixed => one.unwrap_or_else(|| shape.edge_lookahead(dice)),
+        };
+        Edge {
+            source,
+            destination,
+            lookahead,
+        }
+    };
+    routes.into_iter().map(&mut edge).collect()
+}
+
 impl Shape {
+    fn edge_lookahead(&self, dice: &mut Dice) -> u128 {
+        if dice.one_in(4) {
+            return self.lookahead;
+        }
+        self.other(dice)
+    }
+
+    fn other(&self, dice: &mut Dice) -> u128 {
+        let more = u128::from(dice.below(4));
+        dice.pick(self.others).saturating_add(more)
+    }
+
     fn tick(&self, dice: &mut Dice) -> u128 {
         let above = u128::from(dice.below(self.spread));
         if dice.one_in(40) {
@@ -142,11 +192,14 @@ impl Shape {
     }
 
     /// Along an edge or to oneself.
-    fn initial(&self, dice: &mut Dice, edges: &[(u32, u32)]) -> Event {
+    fn initial(&self, dice: &mut Dice, edges: &[Edge]) -> Event {
         let own = dice.below(u64::from(self.n)) as u32;
         let (source, destination) = match edges.is_empty() || dice.one_in(3) {
             true => (own, own),
-            false => dice.pick(edges),
+            false => {
+                let edge = dice.pick(edges);
+                (edge.source, edge.destination)
+            }
         };
         Event {
             source,
@@ -157,13 +210,24 @@ impl Shape {
     }
 }
 
+/// The plan's own lookahead, which in a mixed plan decides 2, and 39 where there is no edge.
+fn own_lookahead(dice: &mut Dice, shape: &Shape, kind: Kind) -> u128 {
+    if kind == Kind::Mixed && dice.one_in(3) {
+        return shape.other(dice);
+    }
+    shape.lookahead
+}
+
 /// A plan that nothing is wrong with, but perhaps faulty emissions.
-fn sound(dice: &mut Dice) -> Plan {
-    let shape = any_shape(dice);
-    let edges = edges(dice, &shape);
+fn sound(dice: &mut Dice, kind: Kind) -> Plan {
+    let mut shape = any_shape(dice);
+    if kind == Kind::Mixed {
+        shape.n = shape.n.max(2);
+    }
+    let edges = edges(dice, &shape, kind);
     let mut plan = Plan {
         n: u64::from(shape.n),
-        lookahead: shape.lookahead,
+        lookahead: own_lookahead(dice, &shape, kind),
         horizon: shape.horizon(dice),
         budget: dice.pick(shape.budgets),
         initial: (0..shape.initial)
@@ -172,7 +236,10 @@ fn sound(dice: &mut Dice) -> Plan {
         edges,
         replies: vec![],
     };
-    if dice.one_in(60) {
+    if kind == Kind::Mixed && plan.uniform() {
+        plan.lookahead = plan.lookahead.checked_add(1).unwrap_or(1);
+    }
+    if dice.one_in(if kind == Kind::Mixed { 20 } else { 60 }) {
         near_39(dice, &shape, &mut plan);
     }
     let faults = dice.pick(&[0, 0, 6, 12, 25]);
@@ -185,29 +252,53 @@ fn sound(dice: &mut Dice) -> Plan {
     plan
 }
 
-/// A horizon on either side of 39. With edges both ways it would take as many rounds.
+/// A horizon on either side of 39, or where it would be by the plan's lookahead or the greatest. With
+/// edges both ways it would take as many rounds.
 fn near_39(dice: &mut Dice, shape: &Shape, plan: &mut Plan) {
     let times: u128 = dice.pick(&[65_536, 65_537]);
     let less = u128::from(dice.below(2));
-    let long = times.saturating_mul(plan.lookahead).saturating_sub(less);
-    if shape.forward || long / plan.lookahead > 65_536 {
+    let least = plan.least_lookahead();
+    let greatest = plan.edges.iter().map(|edge| edge.lookahead).max();
+    let by = dice.pick(&[least, least, plan.lookahead, greatest.unwrap_or(least)]);
+    let long = times.saturating_mul(by).saturating_sub(less);
+    if shape.forward || long / least > 65_536 {
         plan.horizon = long;
     }
 }
 
+/// A ring; in a mixed plan edges of the least lookahead go from 0 to 1 and back, so that it decides how
+/// many rounds there are.
+fn long_edges(dice: &mut Dice, shape: &Shape, kind: Kind) -> Vec<Edge> {
+    let mut routes: Vec<(u32, u32)> = (0..shape.n).map(|p| (p, (p + 1) % shape.n)).collect();
+    if kind == Kind::Mixed && shape.n > 2 {
+        routes.insert(1, (1, 0));
+    }
+    let mut edge = |(source, destination)| {
+        let more = match kind {
+            Kind::Mixed if source + destination > 1 => 1 + dice.below(4),
+            _ => 0,
+        };
+        Edge {
+            source,
+            destination,
+            lookahead: shape.lookahead + u128::from(more),
+        }
+    };
+    routes.into_iter().map(&mut edge).collect()
+}
+
 /// A plan of about as many rounds as 39 lets pass.
-pub fn long_plan(dice: &mut Dice) -> Plan {
+pub fn long_plan(dice: &mut Dice, kind: Kind) -> Plan {
+    let few = if kind == Kind::Mixed { 3 } else { 2 };
     let shape = Shape {
-        n: 2 + dice.below(3) as u32,
+        n: few + dice.below(5 - u64::from(few)) as u32,
         forward: false,
         ..small(dice)
     };
-    let ring = (0..shape.n)
-        .map(|p| (p, (p + 1) % shape.n))
-        .collect::<Vec<_>>();
+    let ring = long_edges(dice, &shape, kind);
     let mut plan = Plan {
         n: u64::from(shape.n),
-        lookahead: shape.lookahead,
+        lookahead: own_lookahead(dice, &shape, kind),
         horizon: 65_536 * shape.lookahead + u128::from(dice.below(2)),
         budget: u64::MAX,
         initial: (0..shape.initial)
@@ -250,21 +341,31 @@ fn more_replies(dice: &mut Dice, plan: &mut Plan) {
 
 fn spoil_edges(dice: &mut Dice, plan: &mut Plan) {
     let at = dice.index(plan.edges.len() + 1);
-    let (source, _) = plan.edges.get(at).copied().unwrap_or((id(plan.n), 0));
+    let source = plan.edges.get(at).map_or(id(plan.n), |edge| edge.source);
     let other = dice.below(64) as u32;
-    match dice.below(7) {
-        0 => plan.edges.insert(at, (source, source)),
-        1 => plan.edges.insert(at, (source, other)),
-        2 => plan.edges.push((other, id(dice.below(plan.n)))),
-        3 if at < plan.edges.len() => plan.edges.insert(at, plan.edges[at]),
+    let lookahead = dice.pick(&[0, plan.lookahead, plan.lookahead, 1]);
+    let edge = |source, destination| Edge {
+        source,
+        destination,
+        lookahead,
+    };
+    match dice.below(8) {
+        0 => plan.edges.insert(at, edge(source, source)),
+        1 => plan.edges.insert(at, edge(source, other)),
+        2 => plan.edges.push(edge(other, id(dice.below(plan.n)))),
+        3 if at < plan.edges.len() => {
+            let twice = plan.edges[at].destination;
+            plan.edges.insert(at, edge(source, twice));
+        }
         4 => plan.edges.reverse(),
         5 if at + 1 < plan.edges.len() => plan.edges.swap(at, at + 1),
-        _ => plan.edges.insert(at, (source, id(plan.n))),
+        6 if at < plan.edges.len() => plan.edges[at].lookahead = lookahead,
+        _ => plan.edges.insert(at, edge(source, id(plan.n))),
     }
     if dice.one_in(300) {
         let more = 513 + dice.index(3);
         plan.edges = (0..more)
-            .map(|at| ((at / 9) as u32, (at % 9) as u32))
+            .map(|at| edge((at / 9) as u32, (at % 9) as u32))
             .collect();
     }
 }
@@ -305,12 +406,16 @@ fn fitted(mut plan: Plan) -> Plan {
 }
 
 /// Any plan whose file is not too large.
-pub fn any_plan(dice: &mut Dice) -> Plan {
-    let mut plan = sound(dice);
+pub fn any_plan(dice: &mut Dice, kind: Kind) -> Plan {
+    let mut plan = sound(dice, kind);
     if dice.one_in(3) {
         for _ in 0..1 + dice.below(3) {
             spoil(dice, &mut plan);
         }
+    }
+    if kind == Kind::Uniform {
+        let lookahead = plan.lookahead;
+        plan.edges.iter_mut().for_each(|e| e.lookahead = lookahead);
     }
     fitted(plan)
 }

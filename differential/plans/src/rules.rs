@@ -1,8 +1,8 @@
-//! The model as the host of a plan. It judges 18, which the original does not have, and is held to
-//! what the original answers otherwise.
-use crate::file::Plan;
+//! The rules as the host of a plan. They judge 18, which the original does not have, and plans whose edges
+//! carry other lookaheads than the plan's; otherwise they are held to what the original answers.
+use crate::file::{Event, Plan};
 use crate::listing::{end_line, event_line, Answered};
-use model::{Answer, Call, Emission, Event, Host, Refusal, Rules};
+use crate::runtime::{Handed, Number, Runtime, Step};
 
 /// A run by the rules.
 pub struct Ran {
@@ -13,75 +13,67 @@ pub struct Ran {
 }
 
 struct Run<'a> {
-    plan: &'a Plan,
-    host: Host,
+    runtime: Runtime,
+    /// What is emitted in answer to the k-th event of its process, from 0.
+    reply: &'a mut dyn FnMut(&Handed, usize) -> Vec<Event>,
     lines: String,
     /// How many events each process was handed.
     handed: [usize; 64],
 }
 
 impl Run<'_> {
-    /// The reply that is due to an event.
-    fn reply(&mut self, event: &Event) -> Vec<Emission> {
-        let emitter = event.destination;
-        let handed = &mut self.handed[emitter as usize];
-        let due = self.plan.replies_of(emitter).nth(*handed);
-        *handed += 1;
-        let emission = |e: &crate::file::Event| Emission {
-            emitter,
-            message: e.message(),
-        };
-        due.unwrap_or_default().iter().map(emission).collect()
-    }
-
-    fn hand_back(&mut self, batch: &[Event]) -> Answer {
-        let emissions = batch.iter().flat_map(|e| self.reply(e)).collect();
-        let answer = self.host.call(&Call::HandBack { mask: 0, emissions });
-        let spent = matches!(answer, Answer::Refused(Refusal::EventBudgetExceeded(_)));
-        if spent || matches!(answer, Answer::Committed(_)) {
-            let lines = batch.iter().map(|e| event_line(&e.message()));
-            self.lines.extend(lines);
+    fn hand_back(&mut self, batch: &[Handed]) -> Result<(), Number> {
+        let mut replies = vec![];
+        for event in batch {
+            let handed = &mut self.handed[event.process as usize];
+            replies.push((self.reply)(event, *handed));
+            *handed += 1;
+        }
+        let answer = self.runtime.hand_back(batch, &replies);
+        // "none for a batch refused by other than 24"
+        if matches!(answer, Ok(()) | Err(24)) {
+            self.lines.extend(batch.iter().map(event_line));
         }
         answer
     }
 
     /// "the initial events in turn, then the run; the first refusal ends it"
-    fn opened(&mut self) -> Answer {
-        for event in &self.plan.initial {
-            let answer = self.host.call(&Call::AddInitial(event.message()));
-            if answer != Answer::Accepted {
-                return answer;
-            }
+    fn opened(&mut self, plan: &Plan) -> Result<(), Number> {
+        for event in &plan.initial {
+            self.runtime.add_initial(event)?;
         }
-        self.host.call(&Call::Begin {
-            horizon: self.plan.horizon,
-            budget: self.plan.budget,
-        })
+        self.runtime.begin(plan.horizon, plan.budget)
     }
 
-    fn ended(mut self) -> Ran {
-        let (mut answer, mut last) = (self.opened(), None);
-        loop {
-            answer = match &answer {
-                Answer::Refused(_) | Answer::Finished(_) => break,
-                Answer::Batch(batch, _) => {
-                    last = batch.last().copied();
-                    self.hand_back(batch)
+    /// Steps until it ends, at most so many. What 18 was answered to.
+    fn run(&mut self, most: usize) -> (Number, Option<(u32, usize)>) {
+        for _ in 0..most {
+            match self.runtime.step() {
+                Step::Finished => return (0, None),
+                Step::Refused(number) => return (number, None),
+                Step::Advanced => {}
+                Step::Batch(batch) => {
+                    let Err(number) = self.hand_back(&batch) else {
+                        continue;
+                    };
+                    let place = |e: &Handed| (e.process, self.handed[e.process as usize] - 1);
+                    return (number, batch.last().filter(|_| number == 18).map(place));
                 }
-                _ => self.host.call(&Call::Step),
-            };
+            }
         }
-        let full = answer == Answer::Refused(Refusal::QueueFull);
-        let place = |e: Event| (e.destination, self.handed[e.destination as usize] - 1);
-        let (end, c) = (answer.number(), &self.host.counters);
-        self.lines.push_str(&end_line(
-            end,
-            self.host.state.gvt,
-            c.rounds,
-            c.null_messages,
-        ));
+        (0, None)
+    }
+
+    fn ended(mut self, plan: &Plan, most: usize) -> Ran {
+        let (end, overfull) = match self.opened(plan) {
+            Err(number) => (number, None),
+            Ok(()) => self.run(most),
+        };
+        let (gvt, c) = (self.runtime.gvt, &self.runtime);
+        let last = end_line(end, gvt, c.rounds, c.null_messages);
+        self.lines.push_str(&last);
         Ran {
-            overfull: last.filter(|_| full).map(place),
+            overfull,
             answered: Answered::Listed {
                 text: self.lines,
                 end,
@@ -90,27 +82,44 @@ impl Run<'_> {
     }
 }
 
-/// The run of a plan.
-pub fn ran(plan: &Plan) -> Ran {
+/// "Build comes first, then 39, the initial events in turn, then the run". The run has at most so many
+/// steps.
+pub fn hosted(
+    plan: &Plan,
+    most: usize,
+    reply: &mut dyn FnMut(&Handed, usize) -> Vec<Event>,
+) -> Ran {
     let alone = |answered| Ran {
         answered,
         overfull: None,
     };
-    match Host::build(Rules::RIGHT, &plan.setup()) {
-        Err(refused) => {
-            let end = refused.number();
+    match Runtime::build(plan) {
+        Err(end) => {
             let text = end_line(end, 0, 0, 0);
             alone(Answered::Listed { text, end })
         }
         Ok(_) if plan.too_long() => alone(Answered::Number(39)),
-        Ok(host) => {
+        Ok(runtime) => {
             let run = Run {
-                plan,
-                host,
+                runtime,
+                reply,
                 lines: String::new(),
                 handed: [0; 64],
             };
-            run.ended()
+            run.ended(plan, most)
         }
     }
+}
+
+/// The run of a plan, which ends: 39 let it pass, and a file has few events.
+pub fn ran(plan: &Plan) -> Ran {
+    let mut replies: Vec<Vec<&[Event]>> = vec![];
+    for p in 0..plan.n as u32 {
+        replies.push(plan.replies_of(p).collect());
+    }
+    let mut reply = |event: &Handed, at: usize| {
+        let due = replies[event.process as usize].get(at);
+        due.map_or(vec![], |reply| reply.to_vec())
+    };
+    hosted(plan, usize::MAX, &mut reply)
 }

@@ -6,6 +6,9 @@ use model::{Call, Emission, Entity, List, Message, Payload, Setup};
 /// places for a plan.
 const MOST: u64 = 4096;
 
+/// Lookaheads have two words each.
+const MOST_LOOKAHEADS: u64 = 2 * MOST;
+
 struct Words<'a>(&'a [u8]);
 
 impl Words<'_> {
@@ -26,7 +29,11 @@ impl Words<'_> {
 
     /// A number of things, then the things.
     fn many<T>(&mut self, one: impl Fn(&mut Self) -> Option<T>) -> Option<Vec<T>> {
-        let count = self.word().filter(|count| *count <= MOST)?;
+        self.up_to(MOST, one)
+    }
+
+    fn up_to<T>(&mut self, most: u64, one: impl Fn(&mut Self) -> Option<T>) -> Option<Vec<T>> {
+        let count = self.word().filter(|count| *count <= most)?;
         let mut many = vec![];
         for _ in 0..count {
             many.push(one(self)?);
@@ -71,6 +78,7 @@ impl Words<'_> {
             sources,
             counts,
             destinations: self.many(Self::id)?,
+            lookaheads: self.up_to(MOST_LOOKAHEADS, Self::word)?,
         })
     }
 

@@ -1,5 +1,5 @@
 //! A list of calls as 64-bit words.
-use model::{Call, Counters, Emission, Entity, Event, List, Message, Payload, Setup, State};
+use model::{Call, Counters, Edge, Emission, Entity, Event, List, Message, Payload, Setup, State};
 
 /// The process count that stands for a state given whole, in place of a build.
 pub const STATE: u64 = u64::MAX - 1;
@@ -61,6 +61,8 @@ impl Words {
             self.put([count]);
         }
         self.ids(&setup.destinations);
+        self.put([setup.lookaheads.len() as u64]);
+        self.put(setup.lookaheads.iter().copied());
     }
 
     fn emissions(&mut self, emissions: &[Emission]) {
@@ -147,12 +149,11 @@ impl Words {
         self.put([c.handled, c.emitted, c.remote, c.rounds]);
         self.put([c.null_messages, c.worker_count]);
         let wide = |number: u128| [(number >> 64) as u64, number as u64];
-        let edge = |(ends, bound): ([u32; 2], u128)| [ends.map(u64::from), wide(bound)].concat();
-        let edges = s.edges.iter();
-        self.array(
-            EDGES,
-            edges.map(|e| edge(([e.source, e.destination], e.bound))),
-        );
+        let edge = |e: &Edge| {
+            let ends = [e.source, e.destination].map(u64::from);
+            [ends, wide(e.lookahead), wide(e.bound)].concat()
+        };
+        self.array(EDGES, s.edges.iter().map(edge));
         self.array(PENDING, s.pending.iter().map(event));
         let processes = self.processes(s);
         self.array(2 * PROCESSES, processes.iter().map(|&t| wide(t).to_vec()));

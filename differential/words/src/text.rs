@@ -72,11 +72,12 @@ fn sizes(s: &State) -> String {
 }
 
 fn edges(s: &State) -> String {
-    joined(
-        s.edges
-            .iter()
-            .map(|e| format!("{}:{}:{:x}", e.source, e.destination, e.bound)),
-    )
+    joined(s.edges.iter().map(|e| {
+        format!(
+            "{}:{}:{:x}:{:x}",
+            e.source, e.destination, e.lookahead, e.bound
+        )
+    }))
 }
 
 fn ticks(ticks: &[u128]) -> String {

@@ -21,6 +21,7 @@ fn c3() -> List {
             sources: vec![0, 1],
             counts: vec![1, 1],
             destinations: vec![1, 0],
+            lookaheads: vec![0, 3, 0, 3],
         },
         odd: None,
         calls: vec![Call::AddInitial(message), begin, Call::Step],
@@ -87,6 +88,35 @@ fn a_plan_of_more_than_4096_entities_or_places_ends_the_file() {
     assert_eq!(read(&plan(0, 4097)), 1);
 }
 
+#[test]
+fn a_build_of_more_than_8192_lookahead_words_ends_the_file() {
+    let read = |count: usize| {
+        let mut list = c3();
+        list.setup.lookaheads = vec![1; count];
+        let read = words::decode(&words::bytes(&words::encode(&list, 0)));
+        assert!(read.iter().all(|part| *part == list));
+        read.len()
+    };
+    assert_eq!((read(0), read(5), read(8192), read(8193)), (1, 1, 1, 0));
+}
+
+/// Six words to an edge: source, destination, lookahead, bound.
+#[test]
+fn an_edge_of_a_state_has_its_lookahead_before_its_bound() {
+    let mut setup = c3().setup;
+    setup.lookaheads = vec![1, 2, 0, 4];
+    let mut host = Host::build(Rules::RIGHT, &setup).expect("this is built");
+    host.state.edges[0].bound = (7 << 64) + 9;
+    let words = words::encode_given(&host.state, &host.counters, &[], 0);
+    assert_eq!(words[24..37], [12, 0, 1, 1, 2, 7, 9, 1, 0, 0, 4, 0, 4]);
+    let text = words::given_line(&host.counters, &host.state);
+    let line = words::Line::of(&text).expect("it is a line");
+    assert_eq!(
+        line.edges,
+        "0:1:10000000000000002:70000000000000009 1:0:4:4"
+    );
+}
+
 /// The third array of a state given whole: behind 24 words, the edges and no pending event.
 #[test]
 fn least_inbound_bounds_stand_from_word_128_on() {
@@ -95,7 +125,7 @@ fn least_inbound_bounds_stand_from_word_128_on() {
     (state.horizons, state.inbound) = (vec![5, 1 << 64], vec![(6 << 64) + 7, u128::MAX]);
     let table = |noise: u32| {
         let words = words::encode_given(&state, &host.counters, &[], noise);
-        let at = 24 + 1 + 4 * state.edges.len() + 1;
+        let at = 24 + 1 + 6 * state.edges.len() + 1;
         let end = at + 1 + words[at] as usize;
         assert_eq!(words[end..], [0, 0], "no batch and no calls");
         words[at + 1..end].to_vec()

@@ -42,7 +42,8 @@ fn build(plan: &mut Plan, log: &Log) -> Result<ConservativeRuntime<FromFile>, u6
     let partition = PartitionPlan::from_entities(plan.n, lookahead, entities).map_err(|_| 1u64)?;
     let ids = || (0..plan.n).map(LpId);
     let mut topology: BTreeMap<LpId, Vec<LpId>> = ids().map(|p| (p, vec![])).collect();
-    for &(source, destination) in &plan.edges {
+    for &(source, destination, lookahead) in &plan.edges {
+        assert_eq!(lookahead, plan.lookahead, "the original has one lookahead");
         topology.entry(source).or_default().push(destination);
     }
     let mut replies: BTreeMap<LpId, Vec<Vec<RemoteEvent>>> = ids().map(|p| (p, vec![])).collect();
@@ -97,6 +98,7 @@ pub fn rehearse(bytes: &[u8], listing: &mut Vec<u8>) -> u64 {
             return 0;
         }
     };
+    // The least edge lookahead, since all are the plan's.
     if plan.horizon / plan.lookahead > 65_536 {
         return 39;
     }

@@ -7,7 +7,8 @@ pub struct Plan {
     pub lookahead: u128,
     pub horizon: u128,
     pub budget: u64,
-    pub edges: Vec<(LpId, LpId)>,
+    /// Source, destination, lookahead.
+    pub edges: Vec<(LpId, LpId, u128)>,
     pub initial: Vec<RemoteEvent>,
     pub replies: Vec<(LpId, Vec<RemoteEvent>)>,
 }
@@ -41,12 +42,12 @@ impl Bits<'_> {
         Some(LpId(self.field(6)? as u32))
     }
 
-    fn edge(&mut self) -> Option<(LpId, LpId)> {
-        Some((self.id()?, self.id()?))
+    fn edge(&mut self) -> Option<(LpId, LpId, u128)> {
+        Some((self.id()?, self.id()?, self.field(128)?))
     }
 
     fn event(&mut self) -> Option<RemoteEvent> {
-        let (source_lp, dest_lp) = self.edge()?;
+        let (source_lp, dest_lp) = (self.id()?, self.id()?);
         let tick = SimTime::from_ticks(self.field(128)?);
         let length = self.field(5)?;
         let event_payload = (0..length).map(|_| Some(self.field(8)? as u8));

@@ -25,7 +25,7 @@ const LONG: u64 = 2000;
 const SHORT: u64 = 150;
 
 /// The arrays of a state by value.
-const STATE_WORDS: usize = 2048 + 4096 + 256 + 512;
+const STATE_WORDS: usize = 3072 + 4096 + 256 + 512;
 
 /// The scenario until so late that there are about so many rounds.
 fn lasting(scenario: &Scenario, rounds: u64) -> Scenario {

@@ -8,6 +8,6 @@ build-values-spec =
     tie.close
     (tie.spec
     (λ c. search needs) (λ c. search needs) (λ c. search needs) (λ c. search needs) (λ c. search needs) (λ c. search needs) (λ c. search needs)
-    (λ c. search needs) (λ c. search needs) (λ c. search needs) (λ c. search needs)
+    (λ c. search needs) (λ c. search needs) (λ c. search needs) (λ c. search needs) (λ c. search needs)
     (λ c. search same-build depth 1) (λ c. search same-build depth 1) (λ c. search same-build depth 1) (λ c. search same-build depth 1) (λ c. search same-build depth 1) (λ c. search same-build depth 1) (λ c. search same-build depth 1)
-    (λ c. search same-build depth 1) (λ c. search same-build depth 1) (λ c. search same-build depth 1) (λ c. search same-build depth 1))
+    (λ c. search same-build depth 1) (λ c. search same-build depth 1) (λ c. search same-build depth 1) (λ c. search same-build depth 1) (λ c. search same-build depth 1))

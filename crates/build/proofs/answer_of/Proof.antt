@@ -1,5 +1,5 @@
-use borrow.Author.Needs.{needs}
 use Rattle.build.proofs.Checking.{kept}
+use borrow.Author.Needs.{needs}
 use Rattle.build.proofs.answer_of.Statement.{statement}
 use Rattle.build.proofs.answer_of.Tie as tie
 
@@ -18,6 +18,9 @@ enum-known-fault-3 c = search needs
 enum-known-fault-4 : tie.Need-enum-known-fault-4
 enum-known-fault-4 c = search needs
 
+enum-told-2 : tie.Need-enum-told-2
+enum-told-2 c = search needs
+
 returns : tie.Need-returns
 returns c = search needs
 
@@ -33,6 +36,9 @@ returns-4 c = search kept depth 1
 returns-5 : tie.Need-returns-5
 returns-5 c = search kept depth 1
 
+returns-6 : tie.Need-returns-6
+returns-6 c = search needs
+
 pub answer-of-spec : {M : Type 1} → statement M
 answer-of-spec =
     tie.close
@@ -42,8 +48,10 @@ answer-of-spec =
     enum-known-fault-2
     enum-known-fault-3
     enum-known-fault-4
+    enum-told-2
     returns
     returns-2
     returns-3
     returns-4
-    returns-5)
+    returns-5
+    returns-6)

@@ -1,9 +1,12 @@
 use native.Mathlib.Omega.{arith}
 use lib.ListN.{length-set}
-use borrow.Author.Needs.{needs}
 use Rattle.build_edges.proofs.Behind.{length-one, written-one}
+use borrow.Author.Needs.{needs}
 use Rattle.build_edges.proofs.put_edge.Statement.{statement}
 use Rattle.build_edges.proofs.put_edge.Tie as tie
+
+after-zero-requires : tie.Need-after-zero-requires
+after-zero-requires c κs = search needs
 
 to-word-requires : tie.Need-to-word-requires
 to-word-requires c κs = search needs
@@ -32,6 +35,30 @@ mul-edges-4 c = search needs
 slice-write-edges-2 : tie.Need-slice-write-edges-2
 slice-write-edges-2 c = simp length-set (omega arith)
 
+mul-edges-5 : tie.Need-mul-edges-5
+mul-edges-5 c = search needs
+
+add-edges-2 : tie.Need-add-edges-2
+add-edges-2 c = search needs
+
+mul-edges-6 : tie.Need-mul-edges-6
+mul-edges-6 c = search needs
+
+slice-write-edges-3 : tie.Need-slice-write-edges-3
+slice-write-edges-3 c = simp length-set (omega arith)
+
+mul-edges-7 : tie.Need-mul-edges-7
+mul-edges-7 c = search needs
+
+add-edges-3 : tie.Need-add-edges-3
+add-edges-3 c = search needs
+
+mul-edges-8 : tie.Need-mul-edges-8
+mul-edges-8 c = search needs
+
+slice-write-edges-4 : tie.Need-slice-write-edges-4
+slice-write-edges-4 c = simp length-set (omega arith)
+
 mul-put-tick : tie.Need-mul-put-tick
 mul-put-tick c = search needs
 
@@ -51,6 +78,7 @@ pub put-edge-spec : {M : Type 1} → statement M
 put-edge-spec =
     tie.close
     (tie.spec
+    after-zero-requires
     to-word-requires
     mul-edges
     mul-edges-2
@@ -60,6 +88,14 @@ put-edge-spec =
     add-edges
     mul-edges-4
     slice-write-edges-2
+    mul-edges-5
+    add-edges-2
+    mul-edges-6
+    slice-write-edges-3
+    mul-edges-7
+    add-edges-3
+    mul-edges-8
+    slice-write-edges-4
     mul-put-tick
     add-put-tick
     put-tick-requires

@@ -37,6 +37,12 @@ same-length c = search needs
 returns-3 : tie.Need-returns-3
 returns-3 c = search needs
 
+same-length-2 : tie.Need-same-length-2
+same-length-2 c = search needs
+
+returns-4 : tie.Need-returns-4
+returns-4 c = search needs
+
 pub read-array-spec : {M : Type 1} → statement M
 read-array-spec =
     tie.close
@@ -50,4 +56,6 @@ read-array-spec =
     slice-aggregate-read-words
     read-words-requires
     same-length
-    returns-3)
+    returns-3
+    same-length-2
+    returns-4)

@@ -17,20 +17,14 @@ returns c = search needs
 array-share-prefix-destinations : tie.Need-array-share-prefix-destinations
 array-share-prefix-destinations c = search needs
 
-slice-aggregate-lent : tie.Need-slice-aggregate-lent
-slice-aggregate-lent c =
+slice-aggregate-execute-lookaheads : tie.Need-slice-aggregate-execute-lookaheads
+slice-aggregate-execute-lookaheads c =
     let q = c .before .before .before .read-ids in
     let k = q .kept .0 in
     sym (length-take-le (q .result) (q .last .0) (omega arith))
 
-no-counters-requires : tie.Need-no-counters-requires
-no-counters-requires c κs = search needs
-
-build-requires : tie.Need-build-requires
-build-requires c κs = search needs
-
-execute-on-requires : tie.Need-execute-on-requires
-execute-on-requires c κs = search needs
+execute-lookaheads-requires : tie.Need-execute-lookaheads-requires
+execute-lookaheads-requires c κs = search needs
 
 returns-2 : tie.Need-returns-2
 returns-2 c = search needs
@@ -43,8 +37,6 @@ execute-edges-spec =
     read-ids-requires
     returns
     array-share-prefix-destinations
-    slice-aggregate-lent
-    no-counters-requires
-    build-requires
-    execute-on-requires
+    slice-aggregate-execute-lookaheads
+    execute-lookaheads-requires
     returns-2)

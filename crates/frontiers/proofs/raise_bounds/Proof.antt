@@ -2,17 +2,17 @@ use borrow.Author.Needs.{needs}
 use native.Mathlib.Omega.{arith}
 use mathlib.Core.Path.{_≡_}
 use lib.ListN.{length}
-use Rattle.types.specs.Value.{ticksOf, durationOf}
+use Rattle.types.specs.Value.{ticksOf}
 use Rattle.frontiers.proofs.RaisingBounds.{Raising, raising-start, raising-more, raising-end, source-of, destination-of, edge-most}
 use Rattle.frontiers.proofs.raise_bounds.Statement.{statement}
 use Rattle.frontiers.proofs.raise_bounds.Tie as tie
 
 abbrev Inv-loop : tie.InvT-loop
-Inv-loop edges₀ count first n processes₀ lookahead top raised₀ last₀ i₀ edges processes raised last i =
-    (length edges ≡ length edges₀) × (length processes ≡ 256) × Raising count n (durationOf lookahead) (ticksOf top) first edges₀ processes₀ i edges processes raised last
+Inv-loop edges₀ count first n processes₀ top raised₀ last₀ i₀ edges processes raised last i =
+    (length edges ≡ length edges₀) × (length processes ≡ 256) × Raising count n (ticksOf top) first edges₀ processes₀ i edges processes raised last
 
 abbrev μ-loop : tie.MeasureT-loop
-μ-loop edges₀ count first n processes₀ lookahead top raised₀ last₀ i₀ edges processes raised last i = i
+μ-loop edges₀ count first n processes₀ top raised₀ last₀ i₀ edges processes raised last i = i
 
 loop-holds : tie.Need-loop-holds Inv-loop μ-loop
 loop-holds c = search (raising-start, needs)
@@ -29,7 +29,7 @@ lower-requires c κs =
     let found = up .before .before .before in
     let turn = found .before .before .before in
     let start = turn .before .before .before .before .before .before .before .before .before .before .before .before .before .before in
-    (search needs, search needs, destination-of _ _ _ _ _ _ _ _ _ _ _ _ _ _ _ (turn .loop-test .taken) (turn .before .loop .inv .2) (up .raise-bound .ensures) (start .pre .destinations))
+    (search needs, search needs, destination-of _ _ _ _ _ _ _ _ _ _ _ _ _ _ (turn .loop-test .taken) (turn .before .loop .inv .2) (up .raise-bound .ensures) (start .pre .destinations))
 
 loop-again : tie.Need-loop-again Inv-loop μ-loop
 loop-again c =
@@ -38,7 +38,7 @@ loop-again c =
     let found = up .before .before .before in
     let turn = found .before .before .before in
     let start = turn .before .before .before .before .before .before .before .before .before .before .before .before .before .before in
-    (search needs, search needs, raising-more _ _ _ _ _ _ _ _ _ _ _ _ (found .source-bound .result) (start .pre .few-processes) (start .pre .sources) (turn .loop-test .taken) (turn .before .loop .inv .2) (found .source-bound .ensures) _ _ _ (up .raise-bound .ensures) (low .lower .ensures))
+    (search needs, search needs, raising-more _ _ _ _ _ _ _ _ _ _ _ (found .source-bound .result) (start .pre .few-processes) (start .pre .sources) (turn .loop-test .taken) (turn .before .loop .inv .2) (found .source-bound .ensures) _ _ _ (up .raise-bound .ensures) (low .lower .ensures))
 
 returns : tie.Need-returns Inv-loop μ-loop
 returns c = search raising-end depth 1

@@ -10,8 +10,8 @@ eq-requires c κs = search needs
 returns : tie.Need-returns
 returns c =
     let same = c .before in
-    let start = same .before .before .before .before .before in
-    mismatch (start .args .head) _ _ (start .args .e) (start .args .time) _ (same .eq .ensures) (not-true _ (c .if1 .taken))
+    let start = same .before .before .before .before in
+    mismatch (start .args .head) (start .args .lookahead) _ (start .args .e) (start .args .time) _ (same .eq .ensures) (not-true _ (c .if1 .taken))
 
 to-word-requires : tie.Need-to-word-requires
 to-word-requires c κs = search needs
@@ -21,25 +21,21 @@ returns-2 c =
     let word = c .before in
     let own = word .before .before in
     let same = own .before in
-    let start = same .before .before .before .before .before in
-    unknown (start .args .head) _ _ (start .args .e) (start .args .time) _ (same .eq .ensures) (not-false _ (own .if1 .left)) _ (word .to-word .ensures) (c .if2 .taken)
+    let start = same .before .before .before .before in
+    unknown (start .args .head) (start .args .lookahead) _ (start .args .e) (start .args .time) _ (same .eq .ensures) (not-false _ (own .if1 .left)) _ (word .to-word .ensures) (c .if2 .taken)
 
-to-word-requires-2 : tie.Need-to-word-requires-2
-to-word-requires-2 c κs = search needs
-
-has-route-in-requires : tie.Need-has-route-in-requires
-has-route-in-requires c κs = search needs
+has-route-requires : tie.Need-has-route-requires
+has-route-requires c κs = search needs
 
 returns-3 : tie.Need-returns-3
 returns-3 c =
     let routed = c .before in
-    let named = routed .before in
-    let known = named .before in
+    let known = routed .before in
     let word = known .before in
     let own = word .before .before in
     let same = own .before in
-    let start = same .before .before .before .before .before in
-    unrouted (start .args .head) _ _ (start .args .e) (start .args .time) _ (same .eq .ensures) (not-false _ (own .if1 .left)) _ (word .to-word .ensures) (known .if2 .left) _ (named .to-word2 .ensures) _ (routed .has-route-in .ensures) (not-true _ (c .if3 .taken))
+    let start = same .before .before .before .before in
+    unrouted (start .args .head) (start .args .lookahead) _ (start .args .e) (start .args .time) _ (same .eq .ensures) (not-false _ (own .if1 .left)) _ (word .to-word .ensures) (known .if2 .left) _ (routed .has-route .ensures) (not-true _ (c .if3 .taken))
 
 minimum-tick-requires : tie.Need-minimum-tick-requires
 minimum-tick-requires c κs = search needs
@@ -57,28 +53,26 @@ returns-4 : tie.Need-returns-4
 returns-4 c =
     let told = c .before .before in
     let minimum = told .before .before in
-    let found = minimum .before .before in
+    let found = minimum .before in
     let routed = found .before in
-    let named = routed .before in
-    let known = named .before in
+    let known = routed .before in
     let word = known .before in
     let own = word .before .before in
     let same = own .before in
-    let start = same .before .before .before .before .before in
-    timed (start .args .head) _ _ (start .args .e) (start .args .time) _ (same .eq .ensures) (not-false _ (own .if1 .left)) _ (word .to-word .ensures) (known .if2 .left) _ (named .to-word2 .ensures) _ (routed .has-route-in .ensures) (not-false _ (found .if3 .left)) (minimum .minimum-tick .result) (minimum .minimum-tick .ensures) _ (told .least .given .1) (c .check-tick .result) (c .check-tick .ensures)
+    let start = same .before .before .before .before in
+    timed (start .args .head) (start .args .lookahead) _ (start .args .e) (start .args .time) _ (same .eq .ensures) (not-false _ (own .if1 .left)) _ (word .to-word .ensures) (known .if2 .left) _ (routed .has-route .ensures) (not-false _ (found .if3 .left)) (minimum .minimum-tick .result) (minimum .minimum-tick .ensures) _ (told .least .given .1) (c .check-tick .result) (c .check-tick .ensures)
 
 returns-5 : tie.Need-returns-5
 returns-5 c =
     let minimum = c .before .before in
-    let found = minimum .before .before in
+    let found = minimum .before in
     let routed = found .before in
-    let named = routed .before in
-    let known = named .before in
+    let known = routed .before in
     let word = known .before in
     let own = word .before .before in
     let same = own .before in
-    let start = same .before .before .before .before .before in
-    overflow (start .args .head) _ _ (start .args .e) (start .args .time) _ (same .eq .ensures) (not-false _ (own .if1 .left)) _ (word .to-word .ensures) (known .if2 .left) _ (named .to-word2 .ensures) _ (routed .has-route-in .ensures) (not-false _ (found .if3 .left)) (minimum .minimum-tick .result) (minimum .minimum-tick .ensures) (c .enum-told .given .1)
+    let start = same .before .before .before .before in
+    overflow (start .args .head) (start .args .lookahead) _ (start .args .e) (start .args .time) _ (same .eq .ensures) (not-false _ (own .if1 .left)) _ (word .to-word .ensures) (known .if2 .left) _ (routed .has-route .ensures) (not-false _ (found .if3 .left)) (minimum .minimum-tick .result) (minimum .minimum-tick .ensures) (c .enum-told .given .1)
 
 pub check-emission-spec : {M : Type 1} → statement M
 check-emission-spec =
@@ -88,8 +82,7 @@ check-emission-spec =
     returns
     to-word-requires
     returns-2
-    to-word-requires-2
-    has-route-in-requires
+    has-route-requires
     returns-3
     minimum-tick-requires
     enum-known-least

@@ -1,6 +1,7 @@
 use borrow.Author.Needs.{needs}
-use Rattle.rules.proofs.Tests.{not-true}
-use Rattle.host_hand_back.proofs.Opening.{untabled, tabled}
+use native.Mathlib.Omega.{arith}
+use Rattle.rules.proofs.Tests.{not-true, not-false}
+use Rattle.host_hand_back.proofs.Opening.{cleared-length, can-find, untabled, tabled}
 use Rattle.host_hand_back.proofs.make_tables.Statement.{statement}
 use Rattle.host_hand_back.proofs.make_tables.Tie as tie
 
@@ -16,20 +17,21 @@ returns c =
     let start = begin .before .before .before .before .before .before in
     untabled (start .args .head) _ _ _ (start .args .mask) _ _ (begin .begin-check .ensures) (not-true _ (c .if1 .taken)) _
 
-slice-aggregate-find-routes : tie.Need-slice-aggregate-find-routes
-slice-aggregate-find-routes c = search needs
-
-find-routes-requires : tie.Need-find-routes-requires
-find-routes-requires c κs = search needs
+find-lookaheads-requires : tie.Need-find-lookaheads-requires
+find-lookaheads-requires c κs =
+    let begin = c .before .before .before .before in
+    let start = begin .before .before .before .before .before .before in
+    can-find (start .args .head) _ _ (start .pre .0) _ (start .pre .3)
 
 slice-aggregate-fill : tie.Need-slice-aggregate-fill
 slice-aggregate-fill c = search needs
 
-slice-aggregate-fill-2 : tie.Need-slice-aggregate-fill-2
-slice-aggregate-fill-2 c = search needs
-
 fill-requires : tie.Need-fill-requires
-fill-requires c κs = search needs
+fill-requires c κs =
+    let found = c .before .before .before .before in
+    let begin = found .before .before .before .before .before in
+    let start = begin .before .before .before .before .before .before in
+    (omega (arith, cleared-length _ (start .pre .3), c .before .before .before .words .given), search needs, start .pre .1, start .pre .2)
 
 same-length : tie.Need-same-length
 same-length c = search needs
@@ -37,10 +39,12 @@ same-length c = search needs
 returns-2 : tie.Need-returns-2
 returns-2 c =
     let fill = c .before .before in
-    let routed = fill .before .before .before .before .before in
-    let begin = routed .before .before .before .before .before in
+    let found-words = fill .before .before .before .before in
+    let found = found-words .before in
+    let going = found .before .before in
+    let begin = going .before .before .before in
     let start = begin .before .before .before .before .before .before in
-    tabled (start .args .head) _ _ _ (start .args .mask) _ _ (begin .begin-check .ensures) _ _ (search needs) (fill .fill .ensures) (routed .find-routes .ensures)
+    tabled (start .args .head) _ _ _ (start .args .mask) _ _ (begin .begin-check .ensures) (not-false _ (going .if1 .left)) _ (omega (arith, cleared-length _ (start .pre .3), found-words .words .given)) (start .pre .1) (start .pre .2) _ (fill .fill .ensures) (found .find-lookaheads .ensures)
 
 pub make-tables-spec : {M : Type 1} → statement M
 make-tables-spec =
@@ -49,10 +53,8 @@ make-tables-spec =
     slice-aggregate-begin-check
     begin-check-requires
     returns
-    slice-aggregate-find-routes
-    find-routes-requires
+    find-lookaheads-requires
     slice-aggregate-fill
-    slice-aggregate-fill-2
     fill-requires
     same-length
     returns-2)

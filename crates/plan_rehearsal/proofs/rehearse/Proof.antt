@@ -108,10 +108,24 @@ returns-2 c =
     let early = passed-early (headed .before .before .before .args .file .now) (headed .before .before .before .args .parts) (headed .header .result) known _ (asked .early-number .ensures) (omega (arith, passed .if1 .left)) in
     by-rehearsal _ _ _ _ _ (fallen-refused _ early (falls _ _ (stands-is (headed .before .before .before .args .file .now) (headed .before .before .before .args .parts) (headed .header .result) known _ _ (edges .read-edges .ensures) _ (looked .never-fall .ensures)) (fell .if2 .taken))) (refused .refuse2 .ensures)
 
--- src/lib.rt:179:9
-array-share-prefix-from-2 : tie.Need-array-share-prefix-from-2
-array-share-prefix-from-2 c =
-    let passed = c .before .before .before .before .before .before .before .before in
+slice-aggregate-read-lookaheads : tie.Need-slice-aggregate-read-lookaheads
+slice-aggregate-read-lookaheads c = search needs
+
+read-lookaheads-requires : tie.Need-read-lookaheads-requires
+read-lookaheads-requires c κs =
+    let passed = c .before .before .before .before .before .before .before .before .before in
+    let asked = passed .before in
+    let headed = asked .before .before in
+    let pre = headed .before .before .before .pre in
+    let known = known-of (headed .before .before .before .args .file .now) (headed .before .before .before .args .parts) (headed .header .result) pre (headed .header .ensures) in
+    let early = passed-early (headed .before .before .before .args .file .now) (headed .before .before .before .args .parts) (headed .header .result) known _ (asked .early-number .ensures) (omega (arith, passed .if1 .left)) in
+    let few = few-there (headed .before .before .before .args .file .now) (headed .before .before .before .args .parts) pre early in
+    let room = edges-room (headed .before .before .before .args .file .now) (headed .before .before .before .args .parts) pre in
+    ((room, short-file _ _ pre), search (few, needs))
+
+mul-words : tie.Need-mul-words
+mul-words c =
+    let passed = c .before .before .before .before .before .before .before .before .before .before .before in
     let asked = passed .before in
     let headed = asked .before .before in
     let pre = headed .before .before .before .pre in
@@ -119,23 +133,58 @@ array-share-prefix-from-2 c =
     let early = passed-early (headed .before .before .before .args .file .now) (headed .before .before .before .args .parts) (headed .header .result) known _ (asked .early-number .ensures) (omega (arith, passed .if1 .left)) in
     let few = few-there (headed .before .before .before .args .file .now) (headed .before .before .before .args .parts) pre early in
     search (few, needs)
+
+-- src/lib.rt:179:9
+array-share-prefix-from-2 : tie.Need-array-share-prefix-from-2
+array-share-prefix-from-2 c =
+    let passed = c .before .before .before .before .before .before .before .before .before .before .before in
+    let asked = passed .before in
+    let headed = asked .before .before in
+    let pre = headed .before .before .before .pre in
+    let known = known-of (headed .before .before .before .args .file .now) (headed .before .before .before .args .parts) (headed .header .result) pre (headed .header .ensures) in
+    let early = passed-early (headed .before .before .before .args .file .now) (headed .before .before .before .args .parts) (headed .header .result) known _ (asked .early-number .ensures) (omega (arith, passed .if1 .left)) in
+    let few = few-there (headed .before .before .before .args .file .now) (headed .before .before .before .args .parts) pre early in
+    search (few, c .before .before .before .before .before .before .before .before .read-edges .kept, needs)
 
 -- src/lib.rt:179:9
 slice-aggregate-rehearse-rows : tie.Need-slice-aggregate-rehearse-rows
 slice-aggregate-rehearse-rows c =
-    let passed = c .before .before .before .before .before .before .before .before .before in
+    let passed = c .before .before .before .before .before .before .before .before .before .before .before .before in
     let asked = passed .before in
     let headed = asked .before .before in
     let pre = headed .before .before .before .pre in
     let known = known-of (headed .before .before .before .args .file .now) (headed .before .before .before .args .parts) (headed .header .result) pre (headed .header .ensures) in
     let early = passed-early (headed .before .before .before .args .file .now) (headed .before .before .before .args .parts) (headed .header .result) known _ (asked .early-number .ensures) (omega (arith, passed .if1 .left)) in
     let few = few-there (headed .before .before .before .args .file .now) (headed .before .before .before .args .parts) pre early in
-    sym (length-take-le _ _ (search (few, c .before .before .before .before .before .before .read-edges .kept, needs)))
+    sym (length-take-le _ _ (search (few, c .before .before .before .before .before .before .before .before .before .read-edges .kept, needs)))
 
 -- src/lib.rt:180:9
 array-share-prefix-destinations : tie.Need-array-share-prefix-destinations
 array-share-prefix-destinations c =
-    let passed = c .before .before .before .before .before .before .before .before .before in
+    let passed = c .before .before .before .before .before .before .before .before .before .before .before .before in
+    let asked = passed .before in
+    let headed = asked .before .before in
+    let pre = headed .before .before .before .pre in
+    let known = known-of (headed .before .before .before .args .file .now) (headed .before .before .before .args .parts) (headed .header .result) pre (headed .header .ensures) in
+    let early = passed-early (headed .before .before .before .args .file .now) (headed .before .before .before .args .parts) (headed .header .result) known _ (asked .early-number .ensures) (omega (arith, passed .if1 .left)) in
+    let few = few-there (headed .before .before .before .args .file .now) (headed .before .before .before .args .parts) pre early in
+    search (few, c .before .before .before .before .before .before .before .before .before .read-edges .kept, needs)
+
+-- src/lib.rt:180:9
+slice-aggregate-rehearse-rows-2 : tie.Need-slice-aggregate-rehearse-rows-2
+slice-aggregate-rehearse-rows-2 c =
+    let passed = c .before .before .before .before .before .before .before .before .before .before .before .before .before in
+    let asked = passed .before in
+    let headed = asked .before .before in
+    let pre = headed .before .before .before .pre in
+    let known = known-of (headed .before .before .before .args .file .now) (headed .before .before .before .args .parts) (headed .header .result) pre (headed .header .ensures) in
+    let early = passed-early (headed .before .before .before .args .file .now) (headed .before .before .before .args .parts) (headed .header .result) known _ (asked .early-number .ensures) (omega (arith, passed .if1 .left)) in
+    let few = few-there (headed .before .before .before .args .file .now) (headed .before .before .before .args .parts) pre early in
+    sym (length-take-le _ _ (search (few, c .before .before .before .before .before .before .before .before .before .before .read-edges .kept, needs)))
+
+array-share-prefix-lookaheads : tie.Need-array-share-prefix-lookaheads
+array-share-prefix-lookaheads c =
+    let passed = c .before .before .before .before .before .before .before .before .before .before .before .before .before in
     let asked = passed .before in
     let headed = asked .before .before in
     let pre = headed .before .before .before .pre in
@@ -144,22 +193,22 @@ array-share-prefix-destinations c =
     let few = few-there (headed .before .before .before .args .file .now) (headed .before .before .before .args .parts) pre early in
     search (few, needs)
 
--- src/lib.rt:180:9
-slice-aggregate-rehearse-rows-2 : tie.Need-slice-aggregate-rehearse-rows-2
-slice-aggregate-rehearse-rows-2 c =
-    let passed = c .before .before .before .before .before .before .before .before .before .before in
+slice-aggregate-rehearse-rows-3 : tie.Need-slice-aggregate-rehearse-rows-3
+slice-aggregate-rehearse-rows-3 c =
+    let passed = c .before .before .before .before .before .before .before .before .before .before .before .before .before .before in
     let asked = passed .before in
     let headed = asked .before .before in
     let pre = headed .before .before .before .pre in
     let known = known-of (headed .before .before .before .args .file .now) (headed .before .before .before .args .parts) (headed .header .result) pre (headed .header .ensures) in
     let early = passed-early (headed .before .before .before .args .file .now) (headed .before .before .before .args .parts) (headed .header .result) known _ (asked .early-number .ensures) (omega (arith, passed .if1 .left)) in
     let few = few-there (headed .before .before .before .args .file .now) (headed .before .before .before .args .parts) pre early in
-    sym (length-take-le _ _ (search (few, c .before .before .before .before .before .before .before .read-edges .kept, needs)))
+    sym (length-take-le _ _ (search (few, c .before .before .before .before .read-lookaheads .kept, needs)))
 
 -- src/lib.rt:175:5
 rehearse-rows-requires : tie.Need-rehearse-rows-requires
 rehearse-rows-requires c κs =
-    let stood = c .before .before .before in
+    let read = c .before .before .before .before .before in
+    let stood = read .before .before in
     let looked = stood .before in
     let edges = looked .before .before .before .before in
     let passed = edges .before .before .before in
@@ -168,7 +217,8 @@ rehearse-rows-requires c κs =
     let pre = headed .before .before .before .pre in
     let known = known-of (headed .before .before .before .args .file .now) (headed .before .before .before .args .parts) (headed .header .result) pre (headed .header .ensures) in
     let early = passed-early (headed .before .before .before .args .file .now) (headed .before .before .before .args .parts) (headed .header .result) known _ (asked .early-number .ensures) (omega (arith, passed .if1 .left)) in
-    can-make-rows (headed .before .before .before .args .file .now) (headed .before .before .before .args .parts) (headed .header .result) known _ _ (edges .read-edges .ensures) (early .few) (stands _ _ (stands-is (headed .before .before .before .args .file .now) (headed .before .before .before .args .parts) (headed .header .result) known _ _ (edges .read-edges .ensures) _ (looked .never-fall .ensures)) (stood .if2 .left))
+    let few = few-there (headed .before .before .before .args .file .now) (headed .before .before .before .args .parts) pre early in
+    can-make-rows (headed .before .before .before .args .file .now) (headed .before .before .before .args .parts) (headed .header .result) known _ _ (edges .read-edges .ensures) (early .few) (stands _ _ (stands-is (headed .before .before .before .args .file .now) (headed .before .before .before .args .parts) (headed .header .result) known _ _ (edges .read-edges .ensures) _ (looked .never-fall .ensures)) (stood .if2 .left)) (search (few, edges .read-edges .kept, needs)) _ (search (few, read .read-lookaheads .kept, needs)) (read .read-lookaheads .ensures)
 
 -- src/lib.rt:158:1
 same-length-3 : tie.Need-same-length-3
@@ -196,10 +246,15 @@ rehearse-spec =
     refuse-requires-2
     same-length-2
     returns-2
+    slice-aggregate-read-lookaheads
+    read-lookaheads-requires
+    mul-words
     array-share-prefix-from-2
     slice-aggregate-rehearse-rows
     array-share-prefix-destinations
     slice-aggregate-rehearse-rows-2
+    array-share-prefix-lookaheads
+    slice-aggregate-rehearse-rows-3
     rehearse-rows-requires
     same-length-3
     returns-3)

@@ -15,8 +15,8 @@ slice-aggregate-initialize-2 c = search needs
 -- src/lib.rt:74:9
 initialize-requires : tie.Need-initialize-requires
 initialize-requires c κs =
-    let pre = c .before .before .before .before .before .before .before .before .pre in
-    can-initialize _ _ _ _ _ _ _ (pre .is-setup) (pre .accepted)
+    let pre = c .before .before .before .before .before .before .before .before .before .pre in
+    can-initialize _ _ _ _ _ _ _ _ (pre .is-setup) (pre .accepted)
 
 -- src/lib.rt:83:71
 slice-aggregate-find-replies : tie.Need-slice-aggregate-find-replies
@@ -25,7 +25,7 @@ slice-aggregate-find-replies c = search needs
 -- src/lib.rt:83:5
 find-replies-requires : tie.Need-find-replies-requires
 find-replies-requires c κs =
-    let pre = c .before .before .before .before .before .before .before .before .before .before .before .before .pre in
+    let pre = c .before .before .before .before .before .before .before .before .before .before .before .before .before .pre in
     can-find _ _ (pre .is-setup .known .checked)
 
 -- src/lib.rt:87:9
@@ -44,9 +44,9 @@ run-built-requires : tie.Need-run-built-requires
 run-built-requires c κs =
     let found = c .before .before .before .before .before .before in
     let made = found .before .before .before .before in
-    let pre = made .before .before .before .before .before .before .before .before .before .pre in
+    let pre = made .before .before .before .before .before .before .before .before .before .before .pre in
     let known = pre .is-setup .known in
-    (built-is _ _ _ _ _ _ _ (pre .is-setup) (pre .accepted) _ _ _ (search (made .initialize .kept, needs)) (search (made .initialize .kept, needs)) (made .initialize .ensures), begun _ _ _ known, initial-at _ _ (known .checked), repliable _ _ (known .checked) (pre .accepted) (pre .short-enough) _ (found .find-replies .ensures))
+    (built-is _ _ _ _ _ _ _ _ (pre .is-setup) (pre .accepted) _ _ _ (search (made .initialize .kept, needs)) (search (made .initialize .kept, needs)) (made .initialize .ensures), begun _ _ _ known, initial-at _ _ (known .checked), repliable _ _ (known .checked) (pre .accepted) (pre .short-enough) _ (found .find-replies .ensures))
 
 -- src/lib.rt:96:5
 number-for-requires : tie.Need-number-for-requires
@@ -60,7 +60,7 @@ same-length c = search needs
 returns : tie.Need-returns
 returns c =
     let ran = c .before .before .before .before .before .before in
-    let pre = ran .before .before .before .before .before .before .before .before .before .before .before .before .before .before .before .before .before .before .before .before .pre in
+    let pre = ran .before .before .before .before .before .before .before .before .before .before .before .before .before .before .before .before .before .before .before .before .before .pre in
     ran-over _ (pre .accepted) (pre .short-enough) _ _ _ _ (ran .run-built .ensures) (c .number-for .ensures)
 
 pub rehearse-accepted-spec : {M : Type 1} → statement M

@@ -25,7 +25,7 @@ slice-aggregate-put-rows-2 c = search needs
 
 -- src/lib.rt:144:9
 put-rows-requires : tie.Need-put-rows-requires
-put-rows-requires c κs = rowable _ _ _ _ _ (c .before .before .before .before .before .before .before .before .before .pre) _ _ (search needs) (search needs)
+put-rows-requires c κs = rowable _ _ _ _ _ _ (c .before .before .before .before .before .before .before .before .before .before .pre) _ _ (search needs) (search needs)
 
 -- src/lib.rt:149:9
 array-share-prefix-ids : tie.Need-array-share-prefix-ids
@@ -33,7 +33,7 @@ array-share-prefix-ids c = search needs
 
 -- src/lib.rt:149:9
 slice-aggregate-rehearse-setup : tie.Need-slice-aggregate-rehearse-setup
-slice-aggregate-rehearse-setup c = sym (length-take-le _ _ (search (few-processes _ _ _ _ _ (c .before .before .before .before .before .before .before .before .before .before .before .before .before .pre), needs)))
+slice-aggregate-rehearse-setup c = sym (length-take-le _ _ (search (few-processes _ _ _ _ _ _ (c .before .before .before .before .before .before .before .before .before .before .before .before .before .before .pre), needs)))
 
 -- src/lib.rt:150:9
 array-share-prefix-sources : tie.Need-array-share-prefix-sources
@@ -56,7 +56,7 @@ rehearse-setup-requires : tie.Need-rehearse-setup-requires
 rehearse-setup-requires c κs =
     let rows = c .before .before .before .before .before .before in
     let ids = rows .before .before .before .before in
-    is-setup _ _ _ _ _ (ids .before .before .before .before .before .before .pre) _ _ _ _ (ids .put-ids .ensures) (rows .put-rows .ensures)
+    is-setup _ _ _ _ _ _ (ids .before .before .before .before .before .before .before .pre) _ _ _ _ (ids .put-ids .ensures) (rows .put-rows .ensures)
 
 -- src/lib.rt:128:1
 same-length : tie.Need-same-length

@@ -31,11 +31,14 @@ returns c =
     let test = refused .before .before in
     let counted = test .before in
     let checked = counted .before in
-    let pre = checked .before .before .before .before .before .before .before .before .pre in
-    let n = build-number-is _ _ _ _ _ _ _ pre _ (checked .check .ensures) _ (counted .build-number .ensures) in
+    let pre = checked .before .before .before .before .before .before .before .before .before .pre in
+    let n = build-number-is _ _ _ _ _ _ _ _ pre _ (checked .check .ensures) _ (counted .build-number .ensures) in
     by-rehearsal _ _ _ _ _ (build-refused _ _ n (test .if1 .taken)) (refused .refuse .ensures)
 
 -- src/lib.rt:120:8
+least-lookahead-requires : tie.Need-least-lookahead-requires
+least-lookahead-requires c κs = let pre = c .before .before .before .before .before .before .before .before .before .before .before .pre in omega (arith, pre .two-each)
+
 too-long-requires : tie.Need-too-long-requires
 too-long-requires c κs = search needs
 
@@ -53,27 +56,29 @@ returns-2 c =
     let clear = c .before .before in
     let limit = clear .before .before in
     let asked = limit .before in
-    let test = asked .before .before in
+    let least = asked .before .before in
+    let test = least .before in
     let counted = test .before in
     let checked = counted .before in
-    let pre = checked .before .before .before .before .before .before .before .before .pre in
-    let n = build-number-is _ _ _ _ _ _ _ pre _ (checked .check .ensures) _ (counted .build-number .ensures) in
+    let pre = checked .before .before .before .before .before .before .before .before .before .pre in
+    let n = build-number-is _ _ _ _ _ _ _ _ pre _ (checked .check .ensures) _ (counted .build-number .ensures) in
     let a = build-accepted _ _ n (omega (arith, test .if1 .left)) in
-    let long = long-is _ _ _ _ _ _ _ pre a _ (pre .known .header-of .horizon) _ (asked .too-long .ensures) in
-    by-rehearsal _ _ _ _ _ (rehearsed-long _ a (sym long ∙ limit .if2 .taken)) (hands-zeros _ _ (all-cleared (checked .before .before .before .before .before .before .before .before .args .listing .now) _ (clear .clear .ensures)))
+    let long = long-is _ _ _ _ _ _ _ _ pre a _ (pre .known .header-of .horizon) _ (least .least-lookahead .ensures) _ (asked .too-long .ensures) in
+    by-rehearsal _ _ _ _ _ (rehearsed-long _ a (sym long ∙ limit .if2 .taken)) (hands-zeros _ _ (all-cleared (checked .before .before .before .before .before .before .before .before .before .args .listing .now) _ (clear .clear .ensures)))
 
 -- src/lib.rt:124:5
 rehearse-accepted-requires : tie.Need-rehearse-accepted-requires
 rehearse-accepted-requires c κs =
     let limit = c .before in
     let asked = limit .before in
-    let test = asked .before .before in
+    let least = asked .before .before in
+    let test = least .before in
     let counted = test .before in
     let checked = counted .before in
-    let pre = checked .before .before .before .before .before .before .before .before .pre in
-    let n = build-number-is _ _ _ _ _ _ _ pre _ (checked .check .ensures) _ (counted .build-number .ensures) in
+    let pre = checked .before .before .before .before .before .before .before .before .before .pre in
+    let n = build-number-is _ _ _ _ _ _ _ _ pre _ (checked .check .ensures) _ (counted .build-number .ensures) in
     let a = build-accepted _ _ n (omega (arith, test .if1 .left)) in
-    let long = long-is _ _ _ _ _ _ _ pre a _ (pre .known .header-of .horizon) _ (asked .too-long .ensures) in
+    let long = long-is _ _ _ _ _ _ _ _ pre a _ (pre .known .header-of .horizon) _ (least .least-lookahead .ensures) _ (asked .too-long .ensures) in
     record { ids = _; is-setup = pre; accepted = a; short-enough = sym long ∙ limit .if2 .left }
 
 -- src/lib.rt:100:1
@@ -93,6 +98,7 @@ rehearse-setup-spec =
     refuse-requires
     same-length
     returns
+    least-lookahead-requires
     too-long-requires
     clear-requires
     same-length-2
