@@ -1,5 +1,8 @@
 // The lines of docs/CALLS.md: what a call answered, and everything that document 01 compares after
 // it. A state's counts may be anything: no more is printed than an array holds.
+
+#![tactic(auto)]
+
 ghost use Rattle.std.specs.Prelude.{◌≡◌, ◌≤◌, length};
 
 use answer_values::Values;

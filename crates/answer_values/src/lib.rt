@@ -1,4 +1,7 @@
 // Document 01's number and values of what the calls answer, for those who print them.
+
+#![tactic(auto)]
+
 ghost use Rattle.std.specs.Prelude.{◌≡◌, []};
 ghost use Rattle.build.specs.Numbers as of_build;
 ghost use Rattle.reads.specs.Numbers as of_read;
@@ -11,7 +14,7 @@ use state::{Answer, Counters};
 use types::{LpId, SimDuration, SimTime};
 
 // The values that come with an answer, in the order of document 01's column "Returned".
-#[derive(Drop)]
+#[derive(Clone, Copy)]
 pub enum Values {
     Nothing,
     Number(u64),

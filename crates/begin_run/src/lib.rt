@@ -1,4 +1,7 @@
 // The core of begin: what it does with a state that 11 let pass.
+
+#![tactic(auto)]
+
 ghost use Rattle.std.specs.Prelude.{◌≡◌, leb};
 ghost use Rattle.types.specs.Value.{ticks_of};
 ghost use Rattle.state.specs.View.{stored_of};

@@ -1,4 +1,7 @@
 // Plan for a caller in C, to be timed.
+
+#![tactic(auto)]
+
 use partition::PlanAnswer;
 use types::SimDuration;
 

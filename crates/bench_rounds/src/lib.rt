@@ -1,6 +1,9 @@
 // Lists of calls (docs/CALLS.md) for a caller in C, to be timed (bench/): through the driver on cores,
 // and through the calls by value. Both write what they end with; the answer is how many calls were
 // carried out.
+
+#![tactic(auto)]
+
 use build::BuildAnswer;
 use state::{Counters, Header, Runtime};
 use types::SimDuration;

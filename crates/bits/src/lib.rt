@@ -1,5 +1,8 @@
 // Fields of up to 64 bits in a byte slice, most significant bit first. A place is counted in bits from
 // the slice's start.
+
+#![tactic(auto)]
+
 ghost use Rattle.std.specs.Prelude.{◌≡◌, ◌+◌, ◌*◌, ◌/◌, ◌%◌, ◌-◌, ◌^◌, ◌<◌, ◌≤◌, min, length, take, drop};
 ghost use Rattle.bits.specs.Bits.{value_of};
 ghost use Rattle.bits.specs.Bytes.{stream};

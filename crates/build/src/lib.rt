@@ -1,5 +1,8 @@
 // Build on lent lists: its checks 1 to 10 and 40 in their order, and the header, the edges and the
 // record that an accepted build makes.
+
+#![tactic(auto)]
+
 ghost use Rattle.std.specs.Prelude.{◌≡◌, ◌≤◌};
 ghost use Rattle.types.specs.Value.{duration_of};
 ghost use Rattle.build_topology.specs.Checks.{refusal_of};
@@ -12,7 +15,7 @@ use state::Header;
 use types::{LpId, SimDuration, SimTime};
 
 // What build answers.
-#[derive(Drop)]
+#[derive(Clone, Copy)]
 pub enum BuildAnswer {
     Accepted,
     InvalidPartitionCount(u64),

@@ -1,5 +1,8 @@
 // The edges of an accepted build as words, six to an edge: those of each row in turn, in the order of
 // the lists from which the rows take their destinations and lookaheads.
+
+#![tactic(auto)]
+
 ghost use Rattle.std.specs.Prelude.{◌≡◌, [], ◌∷◌, map, ◌+◌, ◌*◌, ◌≤◌, length};
 ghost use Rattle.rules.specs.Build.{edge_to};
 ghost use Rattle.types.specs.Value.{duration_of, lp_id_of};

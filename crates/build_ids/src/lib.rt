@@ -1,5 +1,8 @@
 // Lists of ids as a host gives them, 32 bits wide: build's checks 3, 4 and 6, and 5 of the row
 // sources. Each is one pass, and equal to its definition in rules/Build (specs/Checks.antt).
+
+#![tactic(auto)]
+
 ghost use Rattle.std.specs.Prelude.{◌≡◌, ◌^◌, ◌<◌, ltb, drop};
 ghost use Rattle.rules.specs.Base.{rising};
 ghost use Rattle.build_ids.specs.Checks.{starts_with, RisingIds, checked_ids, missing_row, missing_row_of};
@@ -7,14 +10,14 @@ ghost use Rattle.build_ids.specs.Checks.{starts_with, RisingIds, checked_ids, mi
 use types::LpId;
 
 // 4: a 64-bit mask of the missing ids, and how many are unexpected.
-#[derive(Drop)]
+#[derive(Clone, Copy)]
 pub struct IdMismatch {
     pub missing: u64,
     pub unexpected: u64,
 }
 
 // 6: the least process that has no row.
-#[derive(Drop)]
+#[derive(Clone, Copy)]
 pub enum MissingRow {
     At(LpId),
     Nothing,

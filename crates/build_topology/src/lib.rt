@@ -3,6 +3,9 @@
 // lookaheads, two words for each destination, the upper half first.
 //
 // Each check is equal to its definition in rules/Build (specs/Checks.antt).
+
+#![tactic(auto)]
+
 ghost use Rattle.std.specs.Prelude.{◌≡◌, ◌*◌, eqb, length};
 ghost use Rattle.rules.specs.Base.{sum};
 ghost use Rattle.rules.specs.Build.{topology_rows};
@@ -14,7 +17,7 @@ use build_ids::rising;
 use types::{LpId, MAX_EDGES};
 
 // 7 to 10 and 40, with the values that come with each.
-#[derive(Drop)]
+#[derive(Clone, Copy)]
 pub enum TopologyCheck {
     Valid,
     UnknownTopologySource(LpId),

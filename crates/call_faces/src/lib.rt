@@ -1,5 +1,8 @@
 // The calls of docs/CALLS.md by either face, so that one session serves both: `runtime` and `reads`, by
 // value, or `host`, with the counters lent and a reply of records. The contracts are the same.
+
+#![tactic(auto)]
+
 ghost use Rattle.std.specs.Prelude.{◌<◌};
 ghost use Rattle.types.specs.Value.{duration_of};
 ghost use Rattle.rules.specs.Build.{setup};

@@ -1,5 +1,8 @@
 // A call from words (docs/CALLS.md) through the calls of `host`: for programs that read calls.
 // `call_runtime` carries out the same words through `runtime`, by value.
+
+#![tactic(auto)]
+
 ghost use Rattle.std.specs.Prelude.{◌≡◌, ◌*◌, ◌/◌, ◌<◌, ◌≤◌, length, get_or, take};
 ghost use Rattle.rules.specs.Calls.{HandBack};
 ghost use Rattle.reply_words.specs.Emissions.{emissions_of};

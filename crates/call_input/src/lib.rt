@@ -1,5 +1,8 @@
 // What docs/CALLS.md has, from standard input to lent words: the words of a call, a list of things,
 // and a state given whole. What the words of a call mean is `call_words`'.
+
+#![tactic(auto)]
+
 ghost use Rattle.std.specs.Prelude.{◌≡◌, ◌≤◌, length};
 
 use call_words::{ADD_INITIAL, BEGIN, HAND_BACK, MAX_ITEMS};
@@ -24,7 +27,7 @@ pub const PLAN: u64 = 8;
 const STATE_WORDS: usize = 21;
 
 // A state, where all its words came.
-#[derive(Drop)]
+#[derive(Clone, Copy)]
 pub struct GivenState {
     pub whole: bool,
     pub state: Runtime,

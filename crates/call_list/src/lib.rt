@@ -1,5 +1,8 @@
 // Calls from words (docs/CALLS.md), carried out by the cores on lent arrays, and whole rehearsals: a
 // build, and a list of calls on what it made. No state is copied from call to call.
+
+#![tactic(auto)]
+
 ghost use Rattle.std.specs.Prelude.{◌<◌, ◌≡◌};
 ghost use Rattle.state.specs.ValidArrays.{ValidArrays};
 ghost use Rattle.call_words.specs.Decode.{decode, size, call_of};
@@ -86,7 +89,7 @@ pub fn execute(
 }
 
 // What carrying out all calls of the words leaves, and how many there were.
-#[derive(Drop)]
+#[derive(Clone, Copy)]
 pub struct RunResult {
     pub head: Header,
     pub counters: Counters,
@@ -94,7 +97,7 @@ pub struct RunResult {
 }
 
 // What a rehearsal gives: what build answered, and the runtime and the counters that the calls left.
-#[derive(Drop)]
+#[derive(Clone, Copy)]
 pub struct RehearsalResult {
     pub answer: BuildAnswer,
     pub state: Runtime,

@@ -1,5 +1,8 @@
 // A call from words (docs/CALLS.md) through the calls of `runtime`, by value: for programs that read
 // calls. `call_list` carries out the same words on lent arrays.
+
+#![tactic(auto)]
+
 ghost use Rattle.std.specs.Prelude.{◌<◌, get_or};
 ghost use Rattle.call_words.specs.Decode.{decode, size, call_of};
 ghost use Rattle.runtime.specs.Executes.{Executes};

@@ -1,5 +1,8 @@
 // A session of docs/CALLS.md: the lists of calls from standard input are carried out through the
 // public calls of a face, and the answers printed. What cannot be decoded ends the input.
+
+#![tactic(auto)]
+
 ghost use Rattle.std.specs.Prelude.{◌≡◌, ◌≤◌, length};
 
 use build::BuildAnswer;
@@ -22,14 +25,14 @@ const ROW_WORDS: usize = 8192;
 const STATE: u64 = 18446744073709551614;
 
 // What is left between two calls.
-#[derive(Drop)]
+#[derive(Clone, Copy)]
 struct Session {
     counters: Counters,
     state: Runtime,
 }
 
 // What a call left, and whether there was one.
-#[derive(Drop)]
+#[derive(Clone, Copy)]
 struct Step {
     decoded: bool,
     left: Session,

@@ -1,5 +1,8 @@
 // Calls as words (docs/CALLS.md): how many words the call at a place takes, and the message in some.
 // specs/Decode.antt says which calls words are.
+
+#![tactic(auto)]
+
 ghost use Rattle.std.specs.Prelude.{◌≡◌, ◌+◌, ◌*◌, ◌/◌, ◌≤◌, length, get_or, drop};
 ghost use Rattle.reply_words.specs.Emissions.{emissions_of};
 ghost use Rattle.state.specs.View.{message_of};

@@ -1,4 +1,7 @@
 // The lists of calls from standard input through the calls of `runtime` (docs/CALLS.md).
+
+#![tactic(auto)]
+
 use call_faces::RUNTIME;
 
 fn main() {

@@ -1,4 +1,7 @@
 // What a host in C links: include/dorrezubi.h.
+
+#![tactic(auto)]
+
 ghost use Rattle.dorrezubi.specs.Exports.{Exports};
 
 // "The same reading is exported to the C host over two byte slices, plan and listing."

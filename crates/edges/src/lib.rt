@@ -3,6 +3,9 @@
 //
 // An edge is six words (specs/Records.antt of records). These are leaves: each asks that the words
 // it touches are there.
+
+#![tactic(auto)]
+
 ghost use Rattle.std.specs.Prelude.{◌≡◌, false, ◌+◌, ◌*◌, ◌≤◌, ◌<◌, length};
 ghost use Rattle.rules.specs.Pending.{joins, route};
 ghost use Rattle.rules.specs.Foreign.{unknown_id_edge, without_lookahead};

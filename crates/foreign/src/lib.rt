@@ -1,5 +1,8 @@
 // 11 on the program's state: a header beside its arrays. Its tests, by what is read for them, are in
 // specs/Tests.antt.
+
+#![tactic(auto)]
+
 ghost use Rattle.std.specs.Prelude.{◌≡◌, ◌*◌, ◌≤◌, ◌<◌, length};
 ghost use Rattle.words.specs.Words.{inbounds_of};
 ghost use Rattle.rules.specs.Base.{up_to, any, any_of};

@@ -1,6 +1,9 @@
 // Events in flat words: what 11 asks of them, each in one pass.
 //
 // These are leaves: each asks that the words it touches are there.
+
+#![tactic(auto)]
+
 ghost use Rattle.std.specs.Prelude.{◌≡◌, ◌*◌, ◌≤◌, length};
 ghost use Rattle.rules.specs.Base.{rising};
 ghost use Rattle.rules.specs.Foreign.{by_process};

@@ -3,6 +3,9 @@
 //
 // A table of first ticks or input frontiers has room for a tick of each of 64 processes, two words each,
 // and holds those of the n that there are. These are leaves: each asks that the words it touches are there.
+
+#![tactic(auto)]
+
 ghost use Rattle.std.specs.Prelude.{◌≡◌, ◌+◌, ◌*◌, ◌<◌, ◌≤◌, length, get_or, ◌||◌};
 ghost use Rattle.types.specs.Value.{ticks_of, duration_of};
 ghost use Rattle.records.specs.Records.{event_at, events_of};
@@ -64,7 +67,7 @@ fn input_frontiers(processes: &[u64], first: &mut [u64], n: usize, top: SimTime)
 }
 
 // What the bounds of the edges with one source and one lookahead rise to.
-#[derive(Drop)]
+#[derive(Clone, Copy)]
 struct SourceBound {
     source: u64,
     lookahead: SimDuration,
@@ -155,7 +158,7 @@ pub fn either(a: bool, b: bool) -> bool
 
 // What a pass over local horizons finds: whether one rose, the least first pending tick, and the least
 // local horizon after it.
-#[derive(Drop)]
+#[derive(Clone, Copy)]
 pub struct Raised {
     pub tick: SimTime,
     pub horizon: SimTime,

@@ -1,5 +1,8 @@
 // The core of hand back: what every reply is checked by, the check of a reply in words, and what
 // becomes of its round.
+
+#![tactic(auto)]
+
 ghost use Rattle.std.specs.Prelude.{◌≡◌, ◌*◌, ◌/◌, ◌≤◌, length};
 ghost use Rattle.words.specs.Words.{zeroes};
 ghost use Rattle.records.specs.Records.{Owners};

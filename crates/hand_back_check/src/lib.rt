@@ -4,6 +4,9 @@
 //
 // The tables are made once for a reply: the edges from each process in hand (`hand_back_edges`) and the
 // place of each process's event in the batch (`reply_words`).
+
+#![tactic(auto)]
+
 ghost use Rattle.std.specs.Prelude.{◌≡◌, true, ◌*◌, ◌≤◌, ◌<◌, length, get_or};
 ghost use Rattle.types.specs.Value.{ticks_of, duration_of};
 ghost use Rattle.records.specs.Records.{events_of, Owners};
@@ -20,7 +23,7 @@ use types::{MAX_PROCESSES, SimDuration, SimTime};
 // How far a reply is checked. While `going`, `outcome` is what 28 to 33 say so far; after that its
 // answer refuses the whole call, and the state stays as given. `failed` is the first process in hand
 // that failed, or 64; `last` is the last emitter, and `remote` how many emissions are remote.
-#[derive(Drop)]
+#[derive(Clone, Copy)]
 pub struct ReplyCheck {
     pub going: bool,
     pub last: u64,

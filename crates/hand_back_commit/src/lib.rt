@@ -1,5 +1,8 @@
 // What follows once every emission of a reply is checked, in whatever form it was lent: 27 of the
 // process that failed, then 19 and 18; and, once the round's emissions are queued, its end.
+
+#![tactic(auto)]
+
 ghost use Rattle.std.specs.Prelude.{◌≡◌, ◌+◌, ◌*◌, ◌≤◌, length};
 ghost use Rattle.rules.specs.State.{saturating_add};
 ghost use Rattle.state.specs.Headers.{committed_header};

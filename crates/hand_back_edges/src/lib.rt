@@ -5,6 +5,9 @@
 // little. A reply of records is read with all its tables in one array of words; there the table has the
 // lookaheads themselves, of every pair of processes. These are leaves: each asks that the words it
 // touches are there.
+
+#![tactic(auto)]
+
 ghost use Rattle.std.specs.Prelude.{◌≡◌, ◌+◌, ◌-◌, ◌*◌, ◌≤◌, ◌<◌, length, get_or, set};
 ghost use Rattle.types.specs.Value.{duration_of, lp_id_of};
 ghost use Rattle.records.specs.Records.{edge_at, edges_of};

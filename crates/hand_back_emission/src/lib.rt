@@ -1,4 +1,7 @@
 // Rows 28 to 33 of hand back, of one emission.
+
+#![tactic(auto)]
+
 ghost use Rattle.std.specs.Prelude.{◌≡◌, not, ◌||◌, ◌*◌, ◌<◌, eqb, length};
 ghost use Rattle.types.specs.Value.{ticks_of, duration_of, lp_id_of, IsSum};
 ghost use Rattle.words.specs.Words.{tick_at};
@@ -11,7 +14,7 @@ use state::{Answer, Header};
 use types::{Added, SimDuration, SimTime};
 
 // Whether nothing is refused; where something is, `answer` is the refusal.
-#[derive(Drop)]
+#[derive(Clone, Copy)]
 pub struct CheckResult {
     pub passed: bool,
     pub answer: Answer,

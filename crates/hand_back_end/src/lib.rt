@@ -1,4 +1,7 @@
 // What follows once a reply is checked: the round counted and ended, or lost.
+
+#![tactic(auto)]
+
 ghost use Rattle.std.specs.Prelude.{◌≡◌, suc, ◌*◌, ◌≤◌, max, length};
 ghost use Rattle.types.specs.Value.{ticks_of};
 ghost use Rattle.state.specs.Headers.{poisoned_header};

@@ -2,6 +2,9 @@
 // up where it is". Each takes the counters out of the loan, makes the call of `runtime` or `reads` by
 // value, and stores the counters that it gives; hand back, whose reply is a slice of records, passes
 // over them itself.
+
+#![tactic(auto)]
+
 ghost use Rattle.types.specs.Value.{ticks_of, duration_of};
 ghost use Rattle.rules.specs.Build.{setup};
 ghost use Rattle.rules.specs.Calls.{AddInitial, Begin, Step, HandBack};
@@ -21,14 +24,14 @@ use state::{Answer, Counters, Message, Runtime};
 use types::{SimDuration, SimTime};
 
 // What build gives a host: its answer and the runtime made.
-#[derive(Drop)]
+#[derive(Clone, Copy)]
 pub struct HostBuildResult {
     pub answer: BuildAnswer,
     pub state: Runtime,
 }
 
 // What a call on a runtime gives a host: its answer and the runtime left.
-#[derive(Drop)]
+#[derive(Clone, Copy)]
 pub struct HostCallResult {
     pub answer: Answer,
     pub state: Runtime,

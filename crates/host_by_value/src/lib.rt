@@ -1,6 +1,9 @@
 // The calls of `host` with plain parameters, for programs that are proved: the walk of the prover does
 // not cover a function that lends a struct or a slice of structs, so each of these is proved by hand.
 // The counters are a local that is lent for the call, and a reply is the front of an array.
+
+#![tactic(auto)]
+
 ghost use Rattle.std.specs.Prelude.{◌≤◌, take};
 ghost use Rattle.types.specs.Value.{ticks_of, duration_of};
 ghost use Rattle.rules.specs.Build.{setup};

@@ -1,5 +1,8 @@
 // The lists of calls from standard input through the calls of `host` (docs/CALLS.md): what
 // `calls_main` does through those of `runtime`.
+
+#![tactic(auto)]
+
 use call_faces::HOST;
 
 fn main() {

@@ -34,7 +34,7 @@ use Rattle.host_hand_back.specs.declared.Scan.{Scan}
 use Rattle.host_hand_back.specs.declared.Opened.{Opened}
 use Rattle.host_hand_back.specs.declared.Admission.{Admission}
 use Rattle.host_hand_back.specs.Passes.{reply_of, places_in, look_of, Scanned, Admitted, Queued}
-use Rattle.host_hand_back.specs.Parts.{Opens, AdmissionOf, given_back_holds, after_of, CommitsTo, PoisonsTo, Closable, with_pending, Closes}
+use Rattle.host_hand_back.specs.Parts.{Opens, AdmissionOf, given_back, after_of, CommitsTo, PoisonsTo, Closable, with_pending, Closes}
 use Rattle.host_hand_back.proofs.Opening.{unmoved_back}
 
 -- What all checks say.
@@ -137,7 +137,7 @@ module _ (s : Runtime) (mask : ℕ) (o : Opened) (ys : List Emission) (a : Scan)
 
 -- The end of a call, with s the runtime after the second pass.
 module _ (s : Runtime) (c : Counters) (a : Scan) (b : Admission) (k : ℕ) where
-  pub closes_as_given : a.check.going ≡ false → (r : CallResult) → r ≡ given_back_holds s c a.check → Closes s c a b k r
+  pub closes_as_given : a.check.going ≡ false → (r : CallResult) → r ≡ given_back s c a.check → Closes s c a b k r
   unfolding Closes
   closes_as_given g r e Q mask o ys p w t d z n =
       let i = with_pending s Q in

@@ -1,6 +1,9 @@
 // Hand back of a reply that comes as emission records: what stands before, between and behind the two
 // passes over them. The prover's own walk takes no slice of structs, so the two loops are proved by
 // hand; each calls a covered step for each emission and does nothing else.
+
+#![tactic(auto)]
+
 ghost use Rattle.std.specs.Prelude.{◌≡◌, ◌+◌, ◌*◌, ◌≤◌, length, take};
 ghost use Rattle.words.specs.Words.{zeroes};
 ghost use Rattle.hand_back_commit.specs.Commits.{CanEnd};
@@ -18,7 +21,7 @@ use state::{Answer, Counters, Header, Runtime};
 use types::MAX_PROCESSES;
 
 // How far the first pass is, with the header of the state that the reply is for.
-#[derive(Drop)]
+#[derive(Clone, Copy)]
 pub struct Scan {
     pub head: Header,
     pub check: ReplyCheck,
@@ -27,14 +30,14 @@ pub struct Scan {
 // What the first pass reads, and where it starts: the lookaheads of all pairs of processes from word 0
 // on, the place of each process's event from 8,192, the table of the processes from 8,256 and the events
 // in hand from 8,512.
-#[derive(Drop)]
+#[derive(Clone, Copy)]
 pub struct Opened {
     pub words: [u64; 9024],
     pub scan: Scan,
 }
 
 // Whether the round is queued, by what all checks say; and where the next event goes.
-#[derive(Drop)]
+#[derive(Clone, Copy)]
 pub struct Admission {
     pub admitted: bool,
     pub outcome: CheckResult,

@@ -1,6 +1,9 @@
 // The two passes over a reply of emission records: "a lent list of emission records, each with its
 // emitter". The prover's own walk takes no slice of structs, so these loops are proved by hand; each
 // calls a covered step for each emission and does nothing else.
+
+#![tactic(auto)]
+
 ghost use Rattle.host_hand_back.specs.Passes.{Begun, Scanned, Admitted, Queued};
 
 use host_hand_back::{Admission, Scan};

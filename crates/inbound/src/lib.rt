@@ -3,6 +3,9 @@
 //
 // It stands in the table of the processes (`horizons_of`, `inbounds_of` in specs/Words.antt of words),
 // from place 64 on. These are leaves: each asks that the words it touches are there.
+
+#![tactic(auto)]
+
 ghost use Rattle.std.specs.Prelude.{◌≡◌, [], ◌+◌, ◌*◌, ◌≤◌, ◌<◌, length, get_or};
 ghost use Rattle.types.specs.Value.{ticks_of};
 ghost use Rattle.records.specs.Records.{edge_at, edges_of};

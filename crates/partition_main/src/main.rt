@@ -1,6 +1,9 @@
 // Carries out the plans in lists of calls (docs/CALLS.md) from standard input, and prints a line for
 // each. Plan is on no state, so builds and other calls are read and passed over. What cannot be
 // decoded ends the input.
+
+#![tactic(auto)]
+
 use libc::STDIN_FILENO;
 use text_input::Next;
 

@@ -1,4 +1,7 @@
 // A plan of docs/CALLS.md: read from standard input, carried out, and its line printed.
+
+#![tactic(auto)]
+
 ghost use Rattle.std.specs.Prelude.{◌≡◌, ◌≤◌};
 ghost use Rattle.partition.specs.PlanNumbers.{number_of, values_of};
 ghost use Rattle.partition_text.specs.Values.{list_of};
@@ -28,7 +31,7 @@ fn number_of(answer: PlanAnswer) -> u64
 }
 
 // The values that come with an answer.
-#[derive(Drop)]
+#[derive(Clone, Copy)]
 enum PlanValues {
     Nothing,
     Count(u64),

@@ -5,4 +5,4 @@ use Rattle.plan_file.proofs.Events.{few_events}
 use Rattle.plan_file.proofs.Examples.{examples}
 
 pub plan_files : PlanFiles
-plan_files = record { «few_events» = few_events; widths = widths; «decode_encode» = decode_encode; «encode_decode» = encode_decode; examples = examples }
+plan_files = record { few_events = few_events; widths = widths; decode_encode = decode_encode; encode_decode = encode_decode; examples = examples }

@@ -3,6 +3,9 @@
 //
 // One pass over the file: of each event only its payload's length is read. Nothing is copied; what
 // stands at the places is read by the crate plan_reader.
+
+#![tactic(auto)]
+
 ghost use Rattle.std.specs.Prelude.{◌≡◌, ◌+◌, ◌*◌, ◌<◌, ◌≤◌, length, drop};
 ghost use Rattle.bits.specs.Bytes.{stream};
 ghost use Rattle.plan_file.specs.Format.{gets};
@@ -12,7 +15,7 @@ ghost use Rattle.plan_file.specs.Walked.{rest, skipped, Walked, Counts, Walks};
 
 // 38, 37 or 0; how many edges, initial events and replies there are; and where the first initial event
 // and the first reply stand. The edges stand at 337. Beside 37 and 38 all is 0.
-#[derive(Drop)]
+#[derive(Clone, Copy)]
 pub struct Parts {
     pub number: u64,
     pub edges: usize,
@@ -23,21 +26,21 @@ pub struct Parts {
 }
 
 // A place in the file, or its end came too soon.
-#[derive(Drop)]
+#[derive(Clone, Copy)]
 pub enum Place {
     At(usize),
     Short,
 }
 
 // A list's count, the place of its first record and the place behind it.
-#[derive(Drop)]
+#[derive(Clone, Copy)]
 pub enum Counted {
     Listed(usize, usize, usize),
     Cut,
 }
 
 // The parts of a file that is not too short, and the place behind its contents.
-#[derive(Drop)]
+#[derive(Clone, Copy)]
 pub enum Lists {
     Whole(Parts, usize),
     Ends,

@@ -1,4 +1,7 @@
 // 39: floor(horizon / lookahead) above 65,536, by the least lookahead of an edge (A.4).
+
+#![tactic(auto)]
+
 ghost use Rattle.std.specs.Prelude.{◌≡◌, ◌/◌, ◌*◌, ◌≤◌, leb, length};
 ghost use Rattle.rules.specs.Build.{least_lookahead};
 ghost use Rattle.types.specs.Value.{ticks_of, duration_of};

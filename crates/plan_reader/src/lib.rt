@@ -2,6 +2,9 @@
 // that hand back takes, the header. A place is counted in bits from the file's start.
 //
 // These are leaves: each asks that what it reads is there, which crate plan_file's check gives.
+
+#![tactic(auto)]
+
 ghost use Rattle.std.specs.Prelude.{◌≡◌, ◌+◌, ◌-◌, ◌*◌, ◌^◌, ◌≤◌, min, length, take, drop};
 ghost use Rattle.types.specs.Value.{ticks_of, duration_of, lp_id_of};
 ghost use Rattle.bits.specs.Bits.{value_of};
@@ -16,20 +19,20 @@ use state::Message;
 use types::{LpId, SimDuration, SimTime};
 
 // A message and the place behind it.
-#[derive(Drop)]
+#[derive(Clone, Copy)]
 pub struct MessageAt {
     pub message: Message,
     pub next: usize,
 }
 
 // A payload in two words, first byte highest.
-#[derive(Drop)]
+#[derive(Clone, Copy)]
 pub struct Payload {
     pub hi: u64,
     pub lo: u64,
 }
 
-#[derive(Drop)]
+#[derive(Clone, Copy)]
 pub struct PlanHeader {
     pub n: u64,
     pub lookahead: SimDuration,

@@ -1,5 +1,8 @@
 // The rehearsal of a plan file that 37 and 38 let pass: "Build comes first, then 39, the initial events
 // in turn, then the run; the first refusal ends it."
+
+#![tactic(auto)]
+
 ghost use Rattle.std.specs.Prelude.{◌≡◌, ◌≤◌, length};
 ghost use Rattle.types.specs.Value.{duration_of};
 ghost use Rattle.plan_round.specs.Reached.{plan_of};

@@ -1,5 +1,8 @@
 // The replies of a plan file, found by a table: for each process its next reply, for each reply where
 // it stands and which is the next of its process. So no round looks for a reply.
+
+#![tactic(auto)]
+
 ghost use Rattle.std.specs.Prelude.{◌*◌, ◌<◌, ◌≤◌, length};
 ghost use Rattle.records.specs.Records.{events_of, Owners};
 ghost use Rattle.plan_replies.specs.Fills.{CanReply, Takes, Fills};

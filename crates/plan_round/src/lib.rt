@@ -1,6 +1,9 @@
 // One turn of a plan's host: a step, and, where that hands out a batch, its lines and its reply.
 //
 // All arrays are lent, so no state is copied, and replies are read from the file where they stand.
+
+#![tactic(auto)]
+
 ghost use Rattle.std.specs.Prelude.{◌≤◌, ◌<◌, ◌+◌};
 ghost use Rattle.plan_round.specs.Reached.{Stepping, Holding};
 ghost use Rattle.plan_round.specs.Turns.{Turns, PlaceAfter};
@@ -9,7 +12,7 @@ use state::{Counters, Header};
 
 // How far the run has come: what the calls left, the number of the last answer, the place behind the
 // lines written so far, and how many calls there were.
-#[derive(Drop)]
+#[derive(Clone, Copy)]
 pub struct Turn {
     pub head: Header,
     pub counters: Counters,

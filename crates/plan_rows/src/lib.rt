@@ -1,6 +1,9 @@
 // The lists that build takes, made of the edges of a plan file: ids, rows, destinations and lookaheads.
 //
 // Where sources never fall, build's rows follow from how many edges each source has.
+
+#![tactic(auto)]
+
 ghost use Rattle.std.specs.Prelude.{◌≡◌, [], ℕ, ◌+◌, ◌*◌, ◌<◌, ◌≤◌, leb, length, take, get_or};
 ghost use Rattle.rules.specs.Base.{rising, up_to};
 ghost use Rattle.plan_rows.specs.Rows.{ReadsEdges, ReadsLookaheads, Rowable, MakesRows, Tallies, has_row, row_if, table_rows, PutsRows};

@@ -14,7 +14,7 @@ use Rattle.plan_file.specs.Events.{event_count}
 use Rattle.plan_file.specs.File.{Answer, Answer.refused, Answer.contents, ended, decode}
 use Rattle.plan_file.specs.Format.{Got, Got.short, Got.got}
 use Rattle.plan_file.proofs.Events.{few_events}
-use Rattle.plan_rules.specs.Setup.{setup_of, too_long_holds}
+use Rattle.plan_rules.specs.Setup.{setup_of, too_long}
 use Rattle.plan_rules.specs.Run.{ran}
 use Rattle.plan_rules.specs.Listing
 use Rattle.plan_rules.specs.Listing.{listing, Rehearsal, listed, rehearsed}
@@ -36,7 +36,7 @@ module _ (p : Plan) (few : event_count p ≤ 901) where
 
   short_accepted : (build (setup_of p) zeros).answer ≡ Accepted → Short (rehearsed p)
   short_accepted e =
-      by_bool (too_long_holds p)
+      by_bool (too_long p)
       (λ t. subst Short (sym (rehearsed_long p e t)) refl)
       (λ t. subst Short (sym (rehearsed_ran p e t)) (omega (arith, (size_fits p zeros e).fits t few)))
 
@@ -80,7 +80,7 @@ module _ (file lent : List ℕ) where
       }
 
   module _ (p : Plan) (d : decode file ≡ contents p) (few : event_count p ≤ 901) where
-    listing_short : (q : Plan) → decode file ≡ contents q → (build (setup_of q) zeros).answer ≡ Accepted → too_long_holds q ≡ false → length (listing (ran q)) ≤ 35194
+    listing_short : (q : Plan) → decode file ≡ contents q → (build (setup_of q) zeros).answer ≡ Accepted → too_long q ≡ false → length (listing (ran q)) ≤ 35194
     listing_short q c b t =
         let w : p ≡ q = cc in
         let f : event_count q ≤ 901 = rw w at few in

@@ -1,5 +1,8 @@
 // The run of a plan file on lent arrays: what build made, the initial events in turn, begin, and then
 // turns of the host until it has no next call.
+
+#![tactic(auto)]
+
 ghost use Rattle.std.specs.Prelude.{◌≡◌, ◌<◌, length};
 ghost use Rattle.plan_round.specs.Reached.{plan_of};
 ghost use Rattle.plan_round.specs.Turns.{Came};
@@ -13,7 +16,7 @@ use types::SimTime;
 
 // How far the opening of a run has come: what the calls left, the number of the last answer, and how
 // many calls there were.
-#[derive(Drop)]
+#[derive(Clone, Copy)]
 pub struct Opened {
     pub head: Header,
     pub number: u64,

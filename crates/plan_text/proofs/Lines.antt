@@ -13,7 +13,7 @@ use Rattle.records.specs.Records.{event_of, record_in, event_at, events_of}
 use Rattle.words.specs.Words.{tab}
 use Rattle.words.proofs.Tab.{tab_push}
 use Rattle.plan_rules.specs.Text.{decimal, hexadecimal, space, feed}
-use Rattle.plan_rules.specs.Listing.{event_line, event_lines, end_line_holds}
+use Rattle.plan_rules.specs.Listing.{event_line, event_lines, end_line}
 use Rattle.plan_text.specs.Appends.{Appends, shown}
 use Rattle.plan_text.specs.Prepends.{Prepends}
 use Rattle.plan_text.proofs.Digits.{hexadecimal_halves}
@@ -86,8 +86,8 @@ event_line_holds z a b c process tick source end third second first h p q r =
 pub end_line_holds : (z a b c d e : List ℕ) (k gvt rounds nulls end fifth fourth third second first : ℕ) → length z ≤ end
     → Prepends z end (decimal nulls ++ (feed ∷ [])) a fifth → Prepends a fifth (decimal rounds ++ (space ∷ [])) b fourth → Prepends b fourth (hexadecimal 32 gvt ++ (space ∷ [])) c third
     → Prepends c third (decimal k ++ (space ∷ [])) d second → Prepends d second (101 ∷ 110 ∷ 100 ∷ space ∷ []) e first
-    → drop first e ≡ end_line_holds k gvt rounds nulls
-unfolding end_line_holds
+    → drop first e ≡ end_line k gvt rounds nulls
+unfolding end_line
 end_line_holds z a b c d e k gvt rounds nulls end fifth fourth third second first h p q r s t =
     let n = decimal nulls ++ (feed ∷ []) in
     let m = decimal rounds ++ (space ∷ []) in

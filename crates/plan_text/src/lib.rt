@@ -2,6 +2,9 @@
 //
 // A line is made in an array of its own, from its end to its front, so that no digit has to be counted first; then it is
 // copied behind what stands in the bytes. A place past the end of the bytes says that the listing does not fit.
+
+#![tactic(auto)]
+
 ghost use Rattle.std.specs.Prelude.{◌≡◌, ◌++◌, ◌∷◌, [], ◌+◌, ◌*◌, ◌≤◌, ◌<◌, length};
 ghost use Rattle.types.specs.Value.{ticks_of};
 ghost use Rattle.words.specs.Words.{cleared};

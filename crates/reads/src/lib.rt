@@ -1,5 +1,8 @@
 // The four reads: GVT, counters, how many are pending, earliest pending tick. They check 11 and
 // nothing else, and give back no state and no counters, since these stay as given.
+
+#![tactic(auto)]
+
 ghost use Rattle.rules.specs.Reads.{read_gvt, read_counters, read_pending, read_earliest};
 ghost use Rattle.reads.specs.Reads.{Reads};
 
@@ -8,7 +11,7 @@ use state::{Counters, Runtime};
 use types::SimTime;
 
 // What a read answers. Counters come with `used`, which is one of them but stands in the state.
-#[derive(Drop)]
+#[derive(Clone, Copy)]
 pub enum ReadAnswer {
     Gvt(SimTime),
     Counted(Counters, u64),

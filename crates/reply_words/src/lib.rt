@@ -3,6 +3,9 @@
 //
 // The batch is checked by a table of 64 places, so that each emission is one lookup. An emitter may be
 // any id. These are leaves: each asks that the words it touches are there.
+
+#![tactic(auto)]
+
 ghost use Rattle.std.specs.Prelude.{◌≡◌, ◌+◌, ◌*◌, ◌<◌, ◌≤◌, length};
 ghost use Rattle.rules.specs.HandBack.{failed};
 ghost use Rattle.words.specs.Words.{zeroes};
@@ -13,7 +16,7 @@ ghost use Rattle.reply_words.specs.Replies.{Places, FailedWithoutEvent, FailedNo
 use types::{LpId, MAX_PAYLOAD, MAX_PROCESSES, SimTime};
 
 // An emission: the process that emits it, and the event.
-#[derive(Drop)]
+#[derive(Clone, Copy)]
 pub struct Emission {
     pub emitter: LpId,
     pub source: LpId,

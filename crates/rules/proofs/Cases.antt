@@ -16,7 +16,7 @@ use Rattle.rules.specs.Foreign.{foreign}
 use Rattle.rules.specs.Initial.{initial_rows, add_initial}
 use Rattle.rules.specs.Begin.{previous, begin_rows, begin}
 use Rattle.rules.specs.Refresh.{refreshed}
-use Rattle.rules.specs.Step.{taken_at, spent, any_advanced, null_messages_of, advanced, count_advance, complete, advance, step_run_holds, step_at, step_rows, step}
+use Rattle.rules.specs.Step.{taken_at, spent, any_advanced, null_messages_of, advanced, count_advance, complete, advance, step_run, step_at, step_rows, step}
 use Rattle.rules.specs.HandBack.{Emission, malformed, emission_rows, process_rows, poison_rows, hand_back_rows, handled, count_round, commit, commit_at, poison_with, hand_back}
 use Rattle.rules.proofs.Tests.{by_test, or_left, or_right, not_true, not_false}
 use Rattle.rules.proofs.Lists.{All, all_append, empty_nil}
@@ -129,8 +129,8 @@ pub record StepCases (s : State) (c : Counters) (P : Out → Type 0) : Type 0 wh
   pub last_branch : (h b : ℕ) → Advances s h b → any_advanced s (suc h) ≡ false → complete (advanced s h) (suc h) ≡ false → P (out (Refused Answers.Poisoned) (poison (advanced s h)) c)
 
 module _ (s : State) (c : Counters) (P : Out → Type 0) (k : StepCases s c P) where
-  step_run_holds : (h b : ℕ) → Steps s h b → P (step_run_holds s c h b)
-  unfolding step_run_holds advance
+  step_run_holds : (h b : ℕ) → Steps s h b → P (step_run s c h b)
+  unfolding step_run advance
   step_run_holds h b i =
       by_test P (λ t. k.batch h b i t) (λ t. by_test P (λ _. k.spends h b i) (λ u.
       by_test P (λ v. k.rise h b (record { steps = i; none_taken = t; not_spent = u }) v)

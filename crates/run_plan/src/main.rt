@@ -1,4 +1,7 @@
 // Reads a plan file from standard input and prints its listing; "nothing on 37 to 39".
+
+#![tactic(auto)]
+
 ghost use Rattle.std.specs.Prelude.{◌≡◌, ◌≤◌, length, take};
 ghost use Rattle.plan_rules.specs.Export.{printed};
 ghost use Rattle.run_plan.specs.Prints.{EndsAt};

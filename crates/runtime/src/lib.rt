@@ -1,5 +1,8 @@
 // The runtime's calls. States and answers go in and come back by value, and no call asks anything of
 // its caller.
+
+#![tactic(auto)]
+
 ghost use Rattle.std.specs.Prelude.{◌≡◌, true, ◌/◌, length};
 ghost use Rattle.types.specs.Value.{ticks_of, duration_of};
 ghost use Rattle.words.specs.Words.{zeroes};
@@ -19,7 +22,7 @@ use state::{Answer, Counters, Message, Runtime};
 use types::{SimDuration, SimTime};
 
 // What build gives: its answer, the runtime made and the counters left.
-#[derive(Drop)]
+#[derive(Clone, Copy)]
 pub struct BuildResult {
     pub answer: BuildAnswer,
     pub state: Runtime,
@@ -27,7 +30,7 @@ pub struct BuildResult {
 }
 
 // What a call on a runtime gives: its answer, with the runtime and the counters left.
-#[derive(Drop)]
+#[derive(Clone, Copy)]
 pub struct CallResult {
     pub answer: Answer,
     pub state: Runtime,

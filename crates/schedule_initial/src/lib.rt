@@ -1,4 +1,7 @@
 // The core of add initial: what it does with a state that 11 let pass.
+
+#![tactic(auto)]
+
 ghost use Rattle.std.specs.Prelude.{◌≡◌, ◌+◌, ◌*◌, ◌≤◌, leb, ltb, length};
 ghost use Rattle.types.specs.Value.{lp_id_of};
 ghost use Rattle.rules.specs.State.{max_count, max_pending};

@@ -1,5 +1,8 @@
 // Lists of calls (docs/CALLS.md) on standard input that are read and passed over: each function tells
 // whether what it passed could be decoded.
+
+#![tactic(auto)]
+
 use libc::STDIN_FILENO;
 use text_input::Next;
 

@@ -1,5 +1,8 @@
 // What a runtime is made of: its header, which stands beside four arrays of words, its counters, and
 // what its calls answer. specs/View.antt says which state of the rules a header and its arrays are.
+
+#![tactic(auto)]
+
 ghost use Rattle.std.specs.Prelude.{◌≡◌, ◌+◌, ltb};
 ghost use Rattle.rules.specs.State.{saturating_add, max_count, max_pending};
 ghost use Rattle.state.specs.View.{zero_counters};
@@ -9,7 +12,7 @@ use types::{LpId, MAX_COUNT, MAX_PENDING, SimDuration, SimTime};
 // The small fields of a runtime. `edges`, `pending` and `batch` are how many there are; `next` is the
 // next sequence number; `stored` says whether `horizon` and `budget` are set; `initial`, that initial
 // events are open; `running`, that a run is open.
-#[derive(Drop)]
+#[derive(Clone, Copy)]
 pub struct Header {
     pub n: usize,
     pub lookahead: SimDuration,
@@ -30,7 +33,7 @@ pub struct Header {
 // A runtime by value: its edges, its pending events, a table with two ticks of each process, and the
 // batch in hand. The table has the local horizons and, from place 64 on, the least inbound bounds. The
 // header comes last: a search for a fact enters only so many records, and has to come to the arrays.
-#[derive(Drop)]
+#[derive(Clone, Copy)]
 pub struct Runtime {
     pub edges: [u64; 3072],
     pub pending: [u64; 4096],
@@ -40,7 +43,7 @@ pub struct Runtime {
 }
 
 // The counters of the report.
-#[derive(Drop)]
+#[derive(Clone, Copy)]
 pub struct Counters {
     pub processed_events: u64,
     pub emitted_events: u64,
@@ -52,7 +55,7 @@ pub struct Counters {
 
 // An event before it is accepted: its payload is `len` bytes, the first 16 of them in two words, first
 // byte highest.
-#[derive(Drop)]
+#[derive(Clone, Copy)]
 pub struct Message {
     pub source: LpId,
     pub destination: LpId,
@@ -64,7 +67,7 @@ pub struct Message {
 
 // What add initial, begin, step and hand back answer. The events of a batch are those in hand in the
 // state left. specs/Numbers.antt has document 01's number and values of each.
-#[derive(Drop)]
+#[derive(Clone, Copy)]
 pub enum Answer {
     Accepted,
     Batch(SimTime),
@@ -97,14 +100,14 @@ pub enum Answer {
 }
 
 // An answer and the header left with it.
-#[derive(Drop)]
+#[derive(Clone, Copy)]
 pub struct HeaderResult {
     pub answer: Answer,
     pub head: Header,
 }
 
 // What a step or a hand back gives: its answer, with the header and the counters left.
-#[derive(Drop)]
+#[derive(Clone, Copy)]
 pub struct CoreResult {
     pub answer: Answer,
     pub head: Header,

@@ -1,4 +1,7 @@
 // The core of a step: the batch; or, where nothing is eligible, 24 or an advance.
+
+#![tactic(auto)]
+
 ghost use Rattle.std.specs.Prelude.{◌≡◌, ◌*◌, ◌≤◌, ◌-◌, length};
 ghost use Rattle.rules.specs.Step.{count_advance};
 ghost use Rattle.state.specs.View.{counters_of};

@@ -1,4 +1,7 @@
 // What an advance and a refresh do to local horizons, edge bounds and GVT.
+
+#![tactic(auto)]
+
 ghost use Rattle.std.specs.Prelude.{◌≡◌, length, suc, ◌^◌, ◌-◌, ◌<◌};
 ghost use Rattle.types.specs.Value.{ticks_of};
 ghost use Rattle.step_advance.specs.Refreshes.{CanRefresh, Refreshes};
@@ -8,14 +11,14 @@ use state::Header;
 use types::{Added, SimDuration, SimTime};
 
 // GVT after a refresh, and whether a local horizon rose.
-#[derive(Drop)]
+#[derive(Clone, Copy)]
 pub struct Refreshed {
     pub gvt: SimTime,
     pub rose: bool,
 }
 
 // The header with its new GVT, how many edge bounds rose, and whether anything did.
-#[derive(Drop)]
+#[derive(Clone, Copy)]
 pub struct Advanced {
     pub head: Header,
     pub raised: usize,

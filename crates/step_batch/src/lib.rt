@@ -2,6 +2,9 @@
 //
 // proofs/ScanRule.antt has the law that the pass takes what the rule takes; proofs/Taken.antt says it
 // of the words.
+
+#![tactic(auto)]
+
 ghost use Rattle.std.specs.Prelude.{◌≡◌, ◌&&◌, ◌+◌, ◌*◌, ◌<◌, ◌≤◌, ltb, length};
 ghost use Rattle.types.specs.Value.{ticks_of};
 ghost use Rattle.records.specs.Records.{record_in, put_record, Owners};
@@ -12,7 +15,7 @@ use types::SimTime;
 
 // Where the pass is: how many are kept and taken, how many more may be taken, and the first process
 // not yet seen.
-#[derive(Drop)]
+#[derive(Clone, Copy)]
 pub struct BatchScan {
     pub kept: usize,
     pub taken: usize,

@@ -2,6 +2,9 @@
 // bytes mean as words is proved; which bytes come from a file no contract can say.
 //
 // Only as many bytes are read as are asked for, so that nothing is held from call to call.
+
+#![tactic(auto)]
+
 ghost use Rattle.std.specs.Prelude.{◌≡◌, ◌++◌, ◌+◌, ◌*◌, ◌≤◌, ◌<◌, min, length, drop};
 ghost use Rattle.words.specs.Words.{tab};
 ghost use Rattle.text_input.specs.Little.{word_at, word_of};
@@ -12,7 +15,7 @@ const WORD: usize = 8;
 const BLOCK: usize = 512;
 
 // The next word, where the file has a whole one.
-#[derive(Drop)]
+#[derive(Clone, Copy)]
 pub enum Next {
     Word(u64),
     End,

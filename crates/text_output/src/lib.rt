@@ -1,6 +1,9 @@
 // Text for standard output, gathered in a buffer of io::buffer that the caller lends. `at` is how many
 // bytes of the buffer are in use; what each function puts there is proved, what is written to a file
 // cannot be said by a contract.
+
+#![tactic(auto)]
+
 ghost use Rattle.std.specs.Prelude.{◌≡◌, ◌++◌, ◌∷◌, [], ◌+◌, ◌≤◌, length, take};
 ghost use Rattle.io.specs.Counts.{IsPrefixLen};
 ghost use Rattle.io.specs.Digits.{last_digits, IsDigitCount};

@@ -1,5 +1,8 @@
 // Prints sums and comparisons of ticks at the edges of their range, for each pair of edges. The
 // file stdout holds what the Rust's u128 gives for the same table (differential/findings/src/bin/ticks.rs).
+
+#![tactic(auto)]
+
 use libc::STDOUT_FILENO;
 use types::{Added, SimDuration, SimTime};
 
