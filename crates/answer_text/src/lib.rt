@@ -56,12 +56,25 @@ fn min(a: usize, b: usize) -> usize
     if a < b { a } else { b }
 }
 
+// The first place from `from` on, below `to`, where the byte is b; `to` where there is none.
+fn find(bytes: &[u8], from: usize, to: usize, b: u8) -> usize
+    requires { (from ≤ to) × (to ≤ length bytes.now) }
+    ensures { (from ≤ result) × (result ≤ to) }
+{
+    for i in from..to {
+        if bytes[i] == b {
+            return i;
+        }
+    }
+    to
+}
+
 // The names in the order of their places, nine letters each.
 fn put_name(out: &mut [u8; ROOM], at: usize, k: usize) -> usize {
     let names =
         *b"accepted batch    advanced finished committedgvt      counters pending  earliest given    refused  ";
     let from = 9 * min(k, REFUSED);
-    let end = bytes::scan::find(&names, from, from + 9, b' ');
+    let end = find(&names, from, from + 9, b' ');
     text_output::put(out, at, &names[from..end])
 }
 

@@ -6,9 +6,8 @@
 ghost use Rattle.std.specs.Prelude.{◌≡◌, ◌≤◌, length};
 
 use call_words::{ADD_INITIAL, BEGIN, HAND_BACK, MAX_ITEMS};
-use libc::STDIN_FILENO;
 use state::{Counters, Header, Runtime};
-use text_input::Next;
+use text_input::{Next, STDIN_FILENO};
 use types::{SimDuration, SimTime};
 
 // The most words that a call has: tag, mask and number, and 4,096 emissions.

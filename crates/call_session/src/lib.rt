@@ -7,10 +7,9 @@ ghost use Rattle.std.specs.Prelude.{◌≡◌, ◌≤◌, length};
 
 use build::BuildAnswer;
 use call_input::{BROKEN, CALL_WORDS, LOOKAHEAD_WORDS, PLAN};
-use libc::STDIN_FILENO;
 use runtime::{BuildResult, CallResult};
 use state::{Answer, Counters, Runtime};
-use text_input::Next;
+use text_input::{Next, STDIN_FILENO};
 use types::{LpId, SimDuration};
 
 const PLACES: usize = 4096;

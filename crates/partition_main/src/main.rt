@@ -4,8 +4,7 @@
 
 #![tactic(auto)]
 
-use libc::STDIN_FILENO;
-use text_input::Next;
+use text_input::{Next, STDIN_FILENO};
 
 const PLAN: u64 = 8;
 

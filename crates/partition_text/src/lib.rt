@@ -6,8 +6,8 @@ ghost use Rattle.std.specs.Prelude.{◌≡◌, ◌≤◌};
 ghost use Rattle.partition.specs.PlanNumbers.{number_of, values_of};
 ghost use Rattle.partition_text.specs.Values.{list_of};
 
-use libc::STDIN_FILENO;
 use partition::PlanAnswer;
+use text_input::STDIN_FILENO;
 use text_output::ROOM;
 use types::SimDuration;
 

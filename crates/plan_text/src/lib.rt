@@ -95,7 +95,7 @@ fn append(out: &mut [u8], at: usize, text: &[u8]) -> usize
     if out.len() - at < text.len() {
         return out.len() + 1;
     }
-    at + bytes::copy(text, &mut out[at..])
+    at + byte_copy::copy(text, &mut out[at..])
 }
 
 // The line of an event that was handled.

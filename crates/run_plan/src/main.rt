@@ -6,7 +6,10 @@ ghost use Rattle.std.specs.Prelude.{◌≡◌, ◌≤◌, length, take};
 ghost use Rattle.plan_rules.specs.Export.{printed};
 ghost use Rattle.run_plan.specs.Prints.{EndsAt};
 
-use libc::{STDIN_FILENO, STDOUT_FILENO};
+// The descriptors of standard input and output.
+const STDIN_FILENO: i32 = 0;
+
+const STDOUT_FILENO: i32 = 1;
 
 // How long the text is that zeros stand behind: a listing ends with a line feed.
 fn text_length(text: &[u8]) -> usize

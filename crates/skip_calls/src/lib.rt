@@ -3,8 +3,7 @@
 
 #![tactic(auto)]
 
-use libc::STDIN_FILENO;
-use text_input::Next;
+use text_input::{Next, STDIN_FILENO};
 
 // A list of more things is taken for something that cannot be decoded.
 const MAX_ITEMS: u64 = 4096;

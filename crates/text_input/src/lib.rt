@@ -9,6 +9,9 @@ ghost use Rattle.std.specs.Prelude.{◌≡◌, ◌++◌, ◌+◌, ◌*◌, ◌�
 ghost use Rattle.words.specs.Words.{tab};
 ghost use Rattle.text_input.specs.Little.{word_at, word_of};
 
+// The descriptor of standard input.
+pub const STDIN_FILENO: i32 = 0;
+
 const WORD: usize = 8;
 
 // How many words are read at a time: as many as io::buffer holds.

@@ -10,8 +10,10 @@ ghost use Rattle.io.specs.Digits.{last_digits, IsDigitCount};
 ghost use Rattle.types.specs.Value.{ticks_of};
 ghost use Rattle.text_output.specs.Gathered.{Puts, PutsNumber, PutsNext};
 
-use libc::STDOUT_FILENO;
 use types::SimTime;
+
+// The descriptor of standard output.
+const STDOUT_FILENO: i32 = 1;
 
 // The bytes of a buffer.
 pub const ROOM: usize = 4096;
@@ -26,7 +28,7 @@ pub fn tick_digits(t: SimTime, out: &mut [u8; 32]) -> usize
     let mut high = [0u8; 16];
     if t.hi == 0 {
         let k = io::hex(t.lo, 1, &mut high);
-        return bytes::copy(&high[..k], out);
+        return byte_copy::copy(&high[..k], out);
     }
     let k = io::hex(t.hi, 1, &mut high);
     let mut low = [0u8; 16];
@@ -40,8 +42,8 @@ fn join(first: &[u8], second: &[u8; 16], out: &mut [u8]) -> usize
     ensures value { result ≡ length first.now + 16 }
     ensures out_after { take result out.new ≡ first.now ++ take 16 second.now }
 {
-    let at = bytes::copy(first, out);
-    at + bytes::copy(second, &mut out[at..])
+    let at = byte_copy::copy(first, out);
+    at + byte_copy::copy(second, &mut out[at..])
 }
 
 // The text goes behind what is there. Where it does not fit, what is there is written first.
@@ -55,7 +57,7 @@ fn append(out: &mut [u8], at: usize, text: &[u8]) -> usize
         io::write_all(STDOUT_FILENO, &out[..at]);
         return put_at_start(out, text);
     }
-    at + bytes::copy(text, &mut out[at..])
+    at + byte_copy::copy(text, &mut out[at..])
 }
 
 // The text goes to the front. Where it has no room there either, it is written at once.
@@ -66,7 +68,7 @@ fn put_at_start(out: &mut [u8], text: &[u8]) -> usize
         io::write_all(STDOUT_FILENO, text);
         return 0;
     }
-    bytes::copy(text, out)
+    byte_copy::copy(text, out)
 }
 
 // A buffer is lent as an array, which is one reference: each call of its users is cheaper to check.

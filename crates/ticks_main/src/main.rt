@@ -3,8 +3,10 @@
 
 #![tactic(auto)]
 
-use libc::STDOUT_FILENO;
 use types::{Added, SimDuration, SimTime};
+
+// The descriptor of standard output.
+const STDOUT_FILENO: i32 = 1;
 
 // The edges of a half: 2^64 - 1 and 2^64.
 fn below_carry() -> SimTime {

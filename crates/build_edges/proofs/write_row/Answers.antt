@@ -1,0 +1,22 @@
+use mathlib.Core.Path.{◌≡◌}
+use mathlib.Core.List.{map}
+use Prim.Native.Nat.{◌≤◌, ◌-◌}
+use lib.ListN.{length, take}
+use borrow.Author.Rules.{rules}
+use Rattle.rules.specs.Build.{edge_to}
+use Rattle.types.specs.Value.{lp_id_of}
+use Rattle.build_topology.specs.Lookaheads.{targets_for}
+use Rattle.build_edges.specs.Written.{WritesRow}
+use Rattle.build_edges.proofs.Behind.{written_none, row_more, row_end}
+use borrow.Author.Rules.{rules}
+use Rattle.build_edges.proofs.write_row.Goals as goal
+
+pub loop-i-init : goal.loop-i-init
+loop-i-init c = search (written_none, rules)
+
+pub loop-i-preserved : goal.loop-i-preserved
+loop-i-preserved c =
+    (search rules, search rules, row_more _ _ _ _ c.requires.0 _ _ _ _ _ c.loop-i-test.true c.duration_in-lookahead.ensures c.loop-i.invariant.2 c.put_edge.ensures)
+
+pub returns : goal.returns
+returns c = search row_end depth 1

@@ -1,0 +1,26 @@
+use mathlib.Core.Path.{sym, ◌∙◌}
+use mathlib.Core.Logic.{⊎_elim}
+use Prim.Native.Nat.{◌-◌}
+use native.Mathlib.Omega.{arith}
+use borrow.Author.Rules.{rules}
+use Rattle.build_ids.proofs.RisingLists.{Met, mask_fits, met_none, met_on, met_off, met_all}
+use Rattle.build_ids.proofs.check_ids.Goals as goal
+
+pub loop-id-init : goal.loop-id-init
+loop-id-init c = met_none _ _ c.requires
+
+pub overflow_add-missing : goal.overflow_add-missing
+overflow_add-missing c =
+    record { fits = mask_fits c.args.n c.loop-id.id c.loop-id.missing c.power_of_two-missing.result c.requires.few (omega arith) c.loop-id.invariant.small c.power_of_two-missing.ensures }
+
+pub loop-id-preserved : goal.loop-id-preserved
+loop-id-preserved c =
+    let a = c.args in
+    let l = c.loop-id-test.true in
+    ⊎_elim
+    (λ w. rw (w.1, w.2) (met_on a.n a.ids.now c.loop-id.missing c.loop-id.at c.loop-id.id l (sym c.is_at.ensures ∙ w.0.taken) c.loop-id.invariant))
+    (λ w. rw (w.2, w.3) (rw w.1.ensures (met_off a.n a.ids.now c.loop-id.missing c.loop-id.at c.loop-id.id l (sym c.is_at.ensures ∙ w.0.left) c.loop-id.invariant)))
+    c.if-is_at.branch
+
+pub returns : goal.returns
+returns c = met_all _ c.args.ids.now c.loop-id.missing c.loop-id.at c.loop-id.id c.loop-id-test.false c.loop-id.invariant

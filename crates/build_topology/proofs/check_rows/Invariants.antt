@@ -1,0 +1,14 @@
+use mathlib.Core.Path.{refl}
+use Prim.Native.Nat.{◌-◌}
+use native.Mathlib.Omega.{arith}
+use lib.ListN.{length}
+use borrow.Author.Rules.{rules}
+use Rattle.build_topology.proofs.Decided.{Turned, turned_none, turned_all, turned-ready, turned-fits, turned-unknown, turned-refused, turned-sound}
+use borrow.Author.Rules.{rules}
+use Rattle.build_topology.proofs.check_rows.Given as goal
+
+abbrev pub invariant-loop-i : goal.invariant-loop-i
+invariant-loop-i l = Turned l.n l.sources l.counts l.destinations l.lookaheads l.marks l.at l.i
+
+abbrev pub decreases-loop-i : goal.decreases-loop-i
+decreases-loop-i l = length l.sources - l.i

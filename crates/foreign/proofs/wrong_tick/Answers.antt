@@ -1,0 +1,6 @@
+use borrow.Author.Rules.{rules}
+use Rattle.foreign.proofs.Compared.{ticks_differ}
+use Rattle.foreign.proofs.wrong_tick.Goals as goal
+
+pub returns : goal.returns
+returns c = search ticks_differ depth 1

@@ -1,0 +1,12 @@
+use borrow.Author.Rules.{rules}
+use Prim.Native.Nat.{◌-◌}
+use Rattle.types.specs.Value.{ticks_of}
+use Rattle.records.proofs.Passes.{Seeking, seeking_start}
+use Rattle.frontiers.proofs.Early.{early, late_passed, early_found, none_early}
+use Rattle.frontiers.proofs.has_eligible_event.Given as goal
+
+abbrev pub invariant-loop-p : goal.invariant-loop-p
+invariant-loop-p l = Seeking (λ x. x) (early (ticks_of l.top) l.processes l.first) l.n l.p
+
+abbrev pub decreases-loop-p : goal.decreases-loop-p
+decreases-loop-p l = l.n - l.p

@@ -1,0 +1,14 @@
+use borrow.Author.Rules.{rules}
+use native.Mathlib.Omega.{arith}
+use mathlib.Core.Path.{◌≡◌}
+use lib.ListN.{length}
+use Rattle.types.specs.Value.{ticks_of}
+use Rattle.frontiers.proofs.RaisingBounds.{Raising, raising_start, raising_more, raising_end, source_of, destination_of, edge_most}
+use Rattle.frontiers.proofs.raise_bounds.Given as goal
+
+abbrev pub invariant-loop-i : goal.invariant-loop-i
+invariant-loop-i l =
+    (length l.edges ≡ length l.initial.edges) × (length l.processes ≡ 256) × Raising l.count l.n (ticks_of l.top) l.first l.initial.edges l.initial.processes l.i l.edges l.processes l.raised l.last
+
+abbrev pub decreases-loop-i : goal.decreases-loop-i
+decreases-loop-i l = l.i

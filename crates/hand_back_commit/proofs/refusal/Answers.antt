@@ -1,0 +1,15 @@
+use borrow.Author.Rules.{rules}
+use Rattle.hand_back_commit.proofs.Ending.{refusal_27, refusal_19, refusal-18, refusal-none}
+use Rattle.hand_back_commit.proofs.refusal.Goals as goal
+
+pub returns-then-failed-lt-MAX_PROCESSES : goal.returns-then-failed-lt-MAX_PROCESSES
+returns-then-failed-lt-MAX_PROCESSES c = search refusal_27 depth 1
+
+pub returns-then-sequence_exhausted : goal.returns-then-sequence_exhausted
+returns-then-sequence_exhausted c = search refusal_19 depth 1
+
+pub returns-then-is_queue_full : goal.returns-then-is_queue_full
+returns-then-is_queue_full c = search refusal-18 depth 1
+
+pub returns : goal.returns
+returns c = search refusal-none depth 1

@@ -1,0 +1,6 @@
+use borrow.Author.Rules.{rules}
+use Rattle.hand_back_end.proofs.EndingRound.{leaves}
+use Rattle.hand_back_end.proofs.poison.Goals as goal
+
+pub returns : goal.returns
+returns c = leaves _ _ _ _ c.poisoned_header.ensures

@@ -1,0 +1,26 @@
+use borrow.Author.Rules.{rules}
+use native.Mathlib.Omega.{arith}
+use Rattle.rules.proofs.Tests.{not_true, not_false}
+use Rattle.host_hand_back.proofs.Opening.{cleared_length, can_find, untabled, tabled}
+use Rattle.host_hand_back.proofs.make_tables.Goals as goal
+
+pub returns-then-not-start : goal.returns-then-not-start
+returns-then-not-start c =
+    untabled c.args.head _ _ _ c.args.mask _ _ c.begin_check-start.ensures (not_true _ c.if-not-start.true) _
+
+pub find_lookaheads-requires : goal.find_lookaheads-requires
+find_lookaheads-requires c =
+    can_find c.args.head _ _ c.requires.0 _ c.requires.3
+
+pub fill-requires : goal.fill-requires
+fill-requires c =
+    (omega (arith, cleared_length _ c.requires.3, c.words-1.given), search rules, c.requires.1, c.requires.2)
+
+pub returns : goal.returns
+returns c =
+    let found-words = c in
+    let found = found-words.before in
+    let going = found.before.before in
+    let begin = going.before.before.before in
+    let start = begin.before.before.before.before.before.before in
+    tabled start.args.head _ _ _ start.args.mask _ _ begin.begin-check.ensures (not_false _ going.if1.false) _ (omega (arith, cleared_length _ start.requires.3, found-words.words.given)) start.requires.1 start.requires.2 _ c.fill.ensures found.find-lookaheads.ensures

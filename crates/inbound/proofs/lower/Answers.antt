@@ -1,0 +1,6 @@
+use borrow.Author.Rules.{rules}
+use Rattle.inbound.proofs.Recording.{lowered}
+use Rattle.inbound.proofs.lower.Goals as goal
+
+pub returns : goal.returns
+returns c = search lowered depth 1

@@ -1,0 +1,16 @@
+use borrow.Author.Rules.{rules}
+use mathlib.Core.Path.{◌≡◌}
+use lib.ListN.{length}
+use Rattle.types.specs.Value.{ticks_of}
+use Rattle.rules.specs.State.{max_tick}
+use Rattle.inbound.proofs.Recording.{Resetting, resetting_start, resetting_more, resetting_end}
+use Rattle.inbound.proofs.reset.Goals as goal
+
+pub loop-p-init : goal.loop-p-init
+loop-p-init c = search (resetting_start, rules)
+
+pub loop-p-preserved : goal.loop-p-preserved
+loop-p-preserved c = search resetting_more depth 1
+
+pub returns : goal.returns
+returns c = search resetting_end depth 1

@@ -1,0 +1,26 @@
+use Rattle.plan_file.proofs.reply_list.Goals as goal
+-- `plan_file::reply_list` meets its contract.
+use native.Mathlib.Omega.{arith}
+use mathlib.Core.Path.{refl}
+use Rattle.bits.specs.Bytes.{stream}
+use Rattle.bits.proofs.Streams.{length_stream}
+use Rattle.plan_file.specs.Grammar.{reply}
+use Rattle.plan_file.proofs.Steps.{list_short, list-cut, list_on}
+use borrow.Author.Rules.{rules}
+use Rattle.plan_file.proofs.reply_list.Statement.{statement}
+use Rattle.plan_file.proofs.reply_list.Tie as tie
+
+pub returns-then-s-at-lt10 : goal.returns-then-s-at-lt10
+returns-then-s-at-lt10 c =
+    let a = c.args in
+    list_short reply (stream a.s.now) a.at (rw length_stream (omega arith)) (rw length_stream (omega arith))
+
+pub returns-in_default : goal.returns-in_default
+returns-in_default c =
+    let a = c.args in
+    list-cut reply (stream a.s.now) a.at (rw length_stream (omega arith)) (rw length_stream (omega arith)) _ c.read-n.ensures (refl) c.skip_replies.ensures c.enum_told-1.given.1
+
+pub returns : goal.returns
+returns c =
+    let a = c.args in
+    list_on reply (stream a.s.now) a.at (rw length_stream (omega arith)) (rw length_stream (omega arith)) _ c.read-n.ensures (refl) c.skip_replies.ensures _ c.next-1.given.1

@@ -1,0 +1,35 @@
+use Rattle.plan_file.proofs.skip_messages.Goals as goal
+-- `plan_file::skip_messages` meets its contract.
+use Prim.Native.Nat.{◌*◌, ◌≤◌}
+use mathlib.Core.Path.{◌≡◌, refl}
+use native.Mathlib.Omega.{arith}
+use lib.ListN.{length, drop}
+use borrow.Author.Rules.{rules}
+use Rattle.bits.specs.Bytes.{stream}
+use Rattle.bits.proofs.Streams.{length_stream}
+use Rattle.plan_file.specs.Format.{gets}
+use Rattle.plan_file.specs.Walked.{rest}
+use Rattle.plan_file.specs.Grammar.{message}
+use Rattle.plan_file.proofs.Steps.{walk_in, many-short, many-on, many_end}
+use Rattle.plan_file.proofs.skip_messages.Statement.{statement}
+use Rattle.plan_file.proofs.skip_messages.Tie as tie
+
+pub loop-left-init : goal.loop-left-init
+loop-left-init c = (omega arith, refl)
+
+pub returns-in_default : goal.returns-in_default
+returns-in_default c =
+    let l = c.loop-left in
+    many-short message _ _ l.left l.p l.invariant.1 (omega arith) c.skip_message.ensures c.enum_told-1.given.1
+
+pub loop-left-preserved : goal.loop-left-preserved
+loop-left-preserved c =
+    let l = c.loop-left in
+    let w = c.skip_message.ensures in
+    let q = c.q-1.given in
+    (rw length_stream at (walk_in w _ q.1), many-on message _ _ l.left l.p l.invariant.1 (omega arith) w _ q.1)
+
+pub returns : goal.returns
+returns c =
+    let l = c.loop-left in
+    many_end message _ _ l.left l.p l.invariant.1 (omega arith) (rw length_stream l.invariant.0)

@@ -1,0 +1,7 @@
+use Rattle.plan_file.proofs.skip_messages.Given as goal
+
+abbrev pub invariant-loop-left : goal.invariant-loop-left
+invariant-loop-left l = (l.p ≤ length l.s * 8) × (rest (gets message l.n (drop l.at (stream l.s))) ≡ rest (gets message l.left (drop l.p (stream l.s))))
+
+abbrev pub decreases-loop-left : goal.decreases-loop-left
+decreases-loop-left l = l.left

@@ -1,0 +1,15 @@
+use borrow.Author.Rules.{rules}
+use native.Mathlib.Omega.{arith}
+use mathlib.Core.Logic.{⊎_elim}
+use mathlib.Core.Path.{◌≡◌, sym, ◌∙◌}
+use Prim.Native.Nat.{◌-◌, ◌≤◌}
+use Rattle.types.specs.Value.{ticks_of}
+use Rattle.words.specs.Words.{tick_of}
+use Rattle.plan_limit.proofs.Leasts.{least_from, no_edge, some_edge, least_first, least_new, least_kept, least_end}
+use Rattle.plan_limit.proofs.least_lookahead.Given as goal
+
+abbrev pub invariant-loop-i : goal.invariant-loop-i
+invariant-loop-i l = (1 ≤ l.i) × (least_from l.lookaheads l.count (ticks_of l.least) l.i ≡ least_from l.lookaheads l.count (tick_of l.lookaheads 0) 1)
+
+abbrev pub decreases-loop-i : goal.decreases-loop-i
+decreases-loop-i l = l.count - l.i

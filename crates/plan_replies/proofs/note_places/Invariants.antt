@@ -1,0 +1,7 @@
+use Rattle.plan_replies.proofs.note_places.Given as goal
+
+abbrev pub invariant-loop-k : goal.invariant-loop-k
+invariant-loop-k l = (l.k ≤ l.count) × (length l.table ≡ length l.initial.table) × ((rs : List Reply) → RepliesAt l.s l.at l.count rs → Noting (stream l.s) rs l.k l.p l.table)
+
+abbrev pub decreases-loop-k : goal.decreases-loop-k
+decreases-loop-k l = l.count - l.k

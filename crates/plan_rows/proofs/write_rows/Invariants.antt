@@ -1,0 +1,12 @@
+use native.Mathlib.Omega.{arith}
+use Prim.Native.Nat.{◌+◌, ◌-◌, ◌≤◌}
+use mathlib.Core.Path.{◌≡◌, refl}
+use Rattle.plan_rows.specs.Rows.{table_rows, PutsRows}
+use Rattle.plan_rows.proofs.Tables.{rows_none, rows_more, rows_few}
+use Rattle.plan_rows.proofs.write_rows.Given as goal
+
+abbrev pub invariant-loop-q : goal.invariant-loop-q
+invariant-loop-q l = (l.q ≤ 64) × (l.r ≤ l.q) × PutsRows l.initial.sources l.initial.counts 0 (table_rows l.n l.table l.q) l.sources l.counts l.r
+
+abbrev pub decreases-loop-q : goal.decreases-loop-q
+decreases-loop-q l = 64 - l.q

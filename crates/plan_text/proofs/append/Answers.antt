@@ -1,0 +1,16 @@
+use native.Mathlib.Omega.{arith}
+use Rattle.plan_text.proofs.Appending.{append_full, append_copied}
+use borrow.Author.Rules.{rules}
+use Rattle.plan_text.proofs.append.Goals as goal
+
+pub returns-then-out-at : goal.returns-then-out-at
+returns-then-out-at c = append_full _ _ _ _ (omega arith) (omega arith)
+
+pub returns-then-out-at-2 : goal.returns-then-out-at-2
+returns-then-out-at-2 c = append_full _ _ _ _ (omega arith) (omega arith)
+
+pub returns : goal.returns
+returns c =
+    let e = c.args in
+    let q = c.copy in
+    append_copied e.out.now e.at e.text.now q.new.1.0 q.result (omega arith) (omega arith) q.ensures.0 q.ensures.1 q.auto.1.0

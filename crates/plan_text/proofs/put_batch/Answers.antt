@@ -1,0 +1,28 @@
+use native.Mathlib.Omega.{arith}
+use Prim.Native.Nat.{◌≤◌, ◌-◌}
+use mathlib.Core.Path.{◌≡◌}
+use Rattle.records.specs.Records.{events_of}
+use Rattle.plan_rules.specs.Listing.{event_lines}
+use Rattle.plan_text.specs.Appends.{Appends}
+use Rattle.plan_text.proofs.Appending.{append_none}
+use Rattle.plan_text.proofs.Lines.{batch_more, batch_none}
+use borrow.Author.Rules.{rules}
+use Rattle.plan_text.proofs.put_batch.Goals as goal
+
+pub loop-i-init : goal.loop-i-init
+loop-i-init c = (omega arith, rw batch_none (append_none _ _))
+
+pub loop-i-preserved : goal.loop-i-preserved
+loop-i-preserved c =
+    let l = c.loop-i in
+    let x = c.record_in-e in
+    (omega arith, batch_more _ _ _ _ l.i _ _ _ _ x.result x.ensures c.tick.ensures l.invariant.1 c.put_event-end.ensures)
+
+pub shape_of-out : goal.shape_of-out
+shape_of-out c = c.loop-i.invariant.1.same
+
+pub returns : goal.returns
+returns c =
+    let l = c.loop-i in
+    let e : l.i ≡ c.args.count = omega arith in
+    rw e at l.invariant.1

@@ -1,0 +1,16 @@
+use native.Mathlib.Omega.{arith}
+use Prim.Native.Nat.{◌≤◌, ◌-◌}
+use mathlib.Core.Path.{◌≡◌}
+use Rattle.records.specs.Records.{events_of}
+use Rattle.plan_rules.specs.Listing.{event_lines}
+use Rattle.plan_text.specs.Appends.{Appends}
+use Rattle.plan_text.proofs.Appending.{append_none}
+use Rattle.plan_text.proofs.Lines.{batch_more, batch_none}
+use borrow.Author.Rules.{rules}
+use Rattle.plan_text.proofs.put_batch.Given as goal
+
+abbrev pub invariant-loop-i : goal.invariant-loop-i
+invariant-loop-i l = (l.i ≤ l.count) × Appends l.initial.out l.at (event_lines (events_of l.i l.batch)) l.out l.end
+
+abbrev pub decreases-loop-i : goal.decreases-loop-i
+decreases-loop-i l = l.count - l.i

@@ -1,0 +1,11 @@
+use native.Mathlib.Omega.{arith}
+use mathlib.Core.Path.{◌≡◌, refl}
+use lib.ListN.{length, length-set}
+use Rattle.plan_text.proofs.Fronts.{Hexadecimal, hexadecimal_start, hexadecimal_more, hexadecimal_end}
+use Rattle.plan_text.proofs.put_half.Given as goal
+
+abbrev pub invariant-loop-i : goal.invariant-loop-i
+invariant-loop-i l = (length l.line ≡ length l.initial.line) × Hexadecimal l.n l.first l.end l.initial.line l.rest l.i l.line
+
+abbrev pub decreases-loop-i : goal.decreases-loop-i
+decreases-loop-i l = l.i

@@ -1,0 +1,17 @@
+use native.Mathlib.Omega.{arith}
+use lib.ListN.{length-set}
+use Rattle.plan_text.proofs.Fronts.{prepend_behind}
+use borrow.Author.Rules.{rules}
+use Rattle.plan_text.proofs.put_number.Goals as goal
+
+pub put_decimal-requires : goal.put_decimal-requires
+put_decimal-requires c = (omega arith, simp length-set (omega arith))
+
+pub shape_of-line : goal.shape_of-line
+shape_of-line c = simp length-set at c.put_decimal.auto.0
+
+pub returns : goal.returns
+returns c =
+    let e = c.args in
+    let q = c.put_decimal in
+    (prepend_behind e.line.now _ _ _ _ _ (omega arith) (omega arith) q.ensures.0, omega (arith, q.ensures.1))

@@ -1,0 +1,6 @@
+use borrow.Author.Rules.{rules}
+use Rattle.runtime.proofs.Making.{empty}
+use Rattle.runtime.proofs.empty_runtime.Goals as goal
+
+pub returns : goal.returns
+returns c = search empty depth 1

@@ -1,0 +1,18 @@
+use native.Mathlib.Omega.{arith}
+use borrow.Author.Rules.{rules}
+use Rattle.skip_calls.proofs.skip_calls.Goals as goal
+
+pub returns-in_default : goal.returns-in_default
+returns-in_default c = tt
+
+pub loop-left-init : goal.loop-left-init
+loop-left-init c = tt
+
+pub returns-then-not-skip_next : goal.returns-then-not-skip_next
+returns-then-not-skip_next c = tt
+
+pub loop-left-preserved : goal.loop-left-preserved
+loop-left-preserved c = tt
+
+pub returns : goal.returns
+returns c = tt

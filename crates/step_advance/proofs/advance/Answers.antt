@@ -1,0 +1,21 @@
+use borrow.Author.Rules.{rules}
+use native.Mathlib.Omega.{arith}
+use Rattle.step_advance.proofs.Advancing.{advance_is}
+use Rattle.step_advance.proofs.advance.Goals as goal
+
+pub raise_bounds-raised-requires : goal.raise_bounds-raised-requires
+raise_bounds-raised-requires c =
+    let m = c.requires.0 in
+    record {
+      few = m.few;
+      few_processes = m.few_processes;
+      edge_words = omega (arith, m.few, m.edge_words);
+      first_words = search rules;
+      process_words = search rules;
+      sources = m.sources;
+      destinations = m.destinations;
+    }
+
+pub returns : goal.returns
+returns c =
+    advance_is c.args.head _ _ _ _ _ _ _ c.refresh-refreshed.result _ _ c.requires.0 c.requires.2 c.refresh-refreshed.ensures c.raise_bounds-raised.ensures c.either.ensures

@@ -1,0 +1,7 @@
+use mathlib.Core.Path.{refl}
+use Rattle.types.specs.Value.{halves}
+use Rattle.types.proofs.SimTime.largest.Goals as goal
+
+pub returns : goal.returns
+unfolding halves
+returns c = refl
