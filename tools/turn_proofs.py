@@ -62,8 +62,34 @@ def arguments(text):
     return out
 
 
+def clause_names():
+    """The names of each function's clauses, where it has more than one of a kind."""
+    found = {}
+    for crate in sorted(os.listdir("crates")):
+        src = os.path.join("crates", crate, "src")
+        for file in sorted(os.listdir(src)) if os.path.isdir(src) else []:
+            with open(os.path.join(src, file), encoding="utf-8") as it:
+                text = it.read()
+            within = None
+            for m in re.finditer(r"^impl (\w+)|^\}|^ *(?:pub )?(?:extern \"C\" )?fn (\w+)((?:.*\n)*?)(?= *(?:\{|//|fn |pub fn ))", text, re.M):
+                if m.group(1):
+                    within = m.group(1)
+                elif m.group(2):
+                    key = "::".join([crate, *([within] if within else []), m.group(2)])
+                    found[key] = {k: re.findall(r"^ *" + k + r" (\w+) \{", m.group(3), re.M) for k in ("ensures", "requires")}
+                else:
+                    within = None
+    return found
+
+
+CLAUSES = {}
+
+
 class Function:
-    def __init__(self, entry):
+    def __init__(self, entry, name=""):
+        self.name = name
+        self.params = entry["params"]
+        self.callees = {}
         self.needs = {same(old): new for old, new in entry["needs"]}
         self.needs_kind = {}
         self.steps = {}
@@ -72,6 +98,8 @@ class Function:
             old, new = place[2]
             if old:
                 self.steps.setdefault(same(old), new)
+                if place[3]:
+                    self.callees.setdefault(same(old), place[3])
                 for a, b in place[4]:
                     self.fields[(same(old), a)] = b
         self.loops = []
@@ -107,6 +135,16 @@ def turn_path(token, roots, f, said):
     if not rest:
         return "c"
     step = rest[0]
+    callee = f.callees.get(same(step))
+    if callee and len(rest) > 2 and rest[1] in ("new", "auto") and rest[2].isdigit():
+        given = f.params.get(callee, [])
+        if int(rest[2]) < len(given):
+            rest[2:4 if len(rest) > 3 and rest[3] == "0" else 3] = [given[int(rest[2])]]
+    whose, kind = (callee, 1) if callee else (f.name, 0)
+    if len(rest) > kind + 1 and rest[kind] in ("ensures", "requires") and rest[kind + 1].isdigit():
+        known = CLAUSES.get(whose, {}).get(rest[kind], [])
+        if int(rest[kind + 1]) < len(known):
+            rest[kind + 1] = known[int(rest[kind + 1])]
     if same(step) in f.steps:
         new = f.steps[same(step)]
         if len(rest) > 1 and (same(step), rest[1]) in f.fields:
@@ -136,7 +174,7 @@ def turn_body(body, f, names, said):
 def turn(path, where, entry):
     text = open(path, encoding="utf-8").read()
     said = []
-    f = Function(entry)
+    f = Function(entry, where.replace("Rattle.", "").replace(".proofs.", ".").replace(".", "::"))
     uses, found = blocks(text)
     uses = [u for u in uses if not re.search(r"\.Statement\.\{statement\}|\.Tie as tie|\.Tie\.\{", u)]
     invariants, answers, names, pending, loops = [], [], {}, [], set()
@@ -247,6 +285,7 @@ def turn(path, where, entry):
 def main(names, crate, *only):
     with open(names, encoding="utf-8") as it:
         entries = json.load(it)
+    CLAUSES.update(clause_names())
     entries = {k: v for k, v in entries.items() if "needs" in v}
     top = os.path.join("crates", crate, "proofs")
     for folder, dirs, files in os.walk(top):

@@ -1,9 +1,6 @@
 use Rattle.bits.proofs.append_bits.Goals as goal
 -- `bits::append_bits` meets its contract.
-use borrow.Author.Rules.{rules}
 use Rattle.bits.proofs.Room.{append_is, append_fits}
-use Rattle.bits.proofs.append_bits.Statement.{statement}
-use Rattle.bits.proofs.append_bits.Tie as tie
 
 pub overflow_add-result : goal.overflow_add-result
 overflow_add-result c = let a = c.args in record { fits = append_fits a.acc a.b a.r a.t c.requires.1 c.requires.3 }

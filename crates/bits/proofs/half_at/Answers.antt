@@ -4,9 +4,6 @@ use Prim.Native.Nat.{ℕ, ◌+◌, ◌<◌}
 use native.Mathlib.Omega.{arith}
 use lib.ListN.{get_or}
 use Rattle.bits.proofs.Words.{half_is}
-use borrow.Author.Rules.{rules}
-use Rattle.bits.proofs.half_at.Statement.{statement}
-use Rattle.bits.proofs.half_at.Tie as tie
 
 pub overflow_add-result : goal.overflow_add-result
 overflow_add-result c =

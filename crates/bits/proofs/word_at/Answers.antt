@@ -1,9 +1,6 @@
 use Rattle.bits.proofs.word_at.Goals as goal
 -- `bits::word_at` meets its contract.
 use Rattle.bits.proofs.Words.{word, word_fits}
-use borrow.Author.Rules.{rules}
-use Rattle.bits.proofs.word_at.Statement.{statement}
-use Rattle.bits.proofs.word_at.Tie as tie
 
 pub overflow_add-result : goal.overflow_add-result
 overflow_add-result c =

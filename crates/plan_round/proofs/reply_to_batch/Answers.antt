@@ -23,11 +23,11 @@ fill_reply-emitted-requires c =
 
 -- src/lib.rt:61:18
 pub overflow_mul-emitted : goal.overflow_mul-emitted
-overflow_mul-emitted c = search (c.fill_reply-emitted.ensures.1, c.fill_reply-emitted.auto, c.well_formed, rules)
+overflow_mul-emitted c = search (c.fill_reply-emitted.ensures.result_in_bounds, c.fill_reply-emitted.auto, c.well_formed, rules)
 
 -- src/lib.rt:61:9
 pub slice_bounds-hand_back-end-2 : goal.slice_bounds-hand_back-end-2
-slice_bounds-hand_back-end-2 c = sym (length-take-le _ _ c.fill_reply-emitted.ensures.1)
+slice_bounds-hand_back-end-2 c = sym (length-take-le _ _ c.fill_reply-emitted.ensures.result_in_bounds)
 
 -- src/lib.rt:72:16
 pub overflow_add-result : goal.overflow_add-result
@@ -42,4 +42,4 @@ shape_of-listing c = c.put_batch-listed.ensures.same
 -- src/lib.rt:34:1
 pub returns : goal.returns
 returns c =
-    turned_back _ _ _ _ _ _ _ _ _ _ _ _ c.requires _ _ c.put_batch-listed.ensures _ _ _ c.fill_reply-emitted.ensures.0 _ _ _ _ (search (c.hand_back_holds.auto, rules)) (search (c.hand_back_holds.auto, rules)) (search (c.hand_back_holds.auto, rules)) (search (c.fill_reply-emitted.auto, rules)) _ refl c.fill_reply-emitted.ensures.1 c.hand_back_holds.ensures _ c.number_of_lem.ensures _ c.place_after.ensures
+    turned_back _ _ _ _ _ _ _ _ _ _ _ _ c.requires _ _ c.put_batch-listed.ensures _ _ _ c.fill_reply-emitted.ensures.fills _ _ _ _ (search (c.hand_back_holds.auto, rules)) (search (c.hand_back_holds.auto, rules)) (search (c.hand_back_holds.auto, rules)) (search (c.fill_reply-emitted.auto, rules)) _ refl c.fill_reply-emitted.ensures.result_in_bounds c.hand_back_holds.ensures _ c.number_of_lem.ensures _ c.place_after.ensures

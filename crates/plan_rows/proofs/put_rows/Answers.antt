@@ -7,4 +7,4 @@ tally-requires c = (c.requires.below, tallies_none)
 
 pub returns : goal.returns
 returns c =
-    rows_made c.args.n c.args.from.now c.tally.new.1.0 _ _ _ _ _ c.requires c.tally.ensures c.write_rows.ensures
+    rows_made c.args.n c.args.from.now c.tally.new.table _ _ _ _ _ c.requires c.tally.ensures c.write_rows.ensures

@@ -30,7 +30,7 @@ loop-head-smaller c =
 pub loop-head-preserved : goal.loop-head-preserved
 loop-head-preserved c =
     let i = c.loop-head.invariant in
-    (c.take_turn-t.ensures.came, search (c.take_turn-t.auto, i.1, rules), search (c.take_turn-t.auto, i.2, rules), search (c.take_turn-t.auto, i.3, rules), search (c.take_turn-t.auto, i.4, rules), search (c.take_turn-t.auto.1.1.1.1.1.1.1, i.5, rules), search (c.take_turn-t.auto.1.1.1.1.1.1.1, i.6, rules), search (c.take_turn-t.auto.1.1.1.1.1.1.1, i.7, rules))
+    (c.take_turn-t.ensures.came, search (c.take_turn-t.auto, i.1, rules), search (c.take_turn-t.auto, i.2, rules), search (c.take_turn-t.auto, i.3, rules), search (c.take_turn-t.auto, i.4, rules), search (c.take_turn-t.auto.counters.1.1.1.1.1.1, i.5, rules), search (c.take_turn-t.auto.counters.1.1.1.1.1.1, i.6, rules), search (c.take_turn-t.auto.counters.1.1.1.1.1.1, i.7, rules))
 
 -- src/lib.rt:99:1
 pub shape_of-edges : goal.shape_of-edges

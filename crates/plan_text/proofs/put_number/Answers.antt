@@ -8,7 +8,7 @@ pub put_decimal-requires : goal.put_decimal-requires
 put_decimal-requires c = (omega arith, simp length-set (omega arith))
 
 pub shape_of-line : goal.shape_of-line
-shape_of-line c = simp length-set at c.put_decimal.auto.0
+shape_of-line c = simp length-set at c.put_decimal.auto.line
 
 pub returns : goal.returns
 returns c =

@@ -8,8 +8,8 @@ use Rattle.run_plan.proofs.main.Tie as tie
 
 -- src/main.rt:40:34
 pub slice_bounds-listing-end : goal.slice_bounds-listing-end
-slice_bounds-listing-end c = search (c.rehearse-printed.ensures.1, c.rehearse-printed.auto, rules)
+slice_bounds-listing-end c = search (c.rehearse-printed.ensures.upper_bound, c.rehearse-printed.auto, rules)
 
 -- src/main.rt:40:34
 pub slice_bounds-write_all-end : goal.slice_bounds-write_all-end
-slice_bounds-write_all-end c = sym (length-take-le _ _ c.rehearse-printed.ensures.1)
+slice_bounds-write_all-end c = sym (length-take-le _ _ c.rehearse-printed.ensures.upper_bound)
