@@ -5,6 +5,7 @@ use native.Mathlib.Omega.{arith}
 use borrow.Author.Rules.{rules}
 use Rattle.build_ids.proofs.RisingLists.{Met, mask_fits, met_none, met_on, met_off, met_all}
 use Rattle.build_ids.proofs.check_ids.Goals as goal
+use Rattle.build_ids.proofs.check_ids.Goals.{then-is_at, else-is_at}
 
 pub loop-id-init : goal.loop-id-init
 loop-id-init c = met_none _ _ c.requires
@@ -17,10 +18,7 @@ pub loop-id-preserved : goal.loop-id-preserved
 loop-id-preserved c =
     let a = c.args in
     let l = c.loop-id-test.true in
-    ⊎_elim
-    (λ w. rw (w.1, w.2) (met_on a.n a.ids.now c.loop-id.missing c.loop-id.at c.loop-id.id l (sym c.is_at.ensures ∙ w.0.taken) c.loop-id.invariant))
-    (λ w. rw (w.2, w.3) (rw w.1.ensures (met_off a.n a.ids.now c.loop-id.missing c.loop-id.at c.loop-id.id l (sym c.is_at.ensures ∙ w.0.left) c.loop-id.invariant)))
-    c.if-is_at.branch
+    elim c.if-is_at.branch [ then-is_at w ↦ rw (w.missing-is, w.at-is) (met_on a.n a.ids.now c.loop-id.missing c.loop-id.at c.loop-id.id l (sym c.is_at.ensures ∙ w.if-is_at.true) c.loop-id.invariant) | else-is_at w ↦ rw (w.missing-is, w.at-is) (rw w.power_of_two-missing.ensures (met_off a.n a.ids.now c.loop-id.missing c.loop-id.at c.loop-id.id l (sym c.is_at.ensures ∙ w.if-is_at.false) c.loop-id.invariant)) ]
 
 pub returns : goal.returns
 returns c = met_all _ c.args.ids.now c.loop-id.missing c.loop-id.at c.loop-id.id c.loop-id-test.false c.loop-id.invariant
