@@ -14,6 +14,8 @@ import re
 
 ID = re.compile(r"[^\s(){};.,@\"«»|\[\]]+")
 HEAD = re.compile(r"^ {0,4}(?:(?:unfoldable|abbrev|pub|private|data|record|instance)\s+)*«?([^\s(){};.,@:«»]+)»?(?: \(.*| \{.*|)? ?:(?: |$)")
+# Deeper, in modules within modules, what is public.
+DEEP = re.compile(r"^ {5,}pub (?:abbrev )?«?([^\s(){};.,@:«»]+)»?(?: \(.*| \{.*|)? ?:(?: |$)")
 USE = re.compile(r"use ([\w.+]+)\.\{([^}]*)\}")
 
 # Names that would fall together with another, and the ones they get.
@@ -73,7 +75,7 @@ def names():
     made = {}
     for p in files("crates", (".antt",)):
         for line in read(p).split("\n"):
-            m = HEAD.match(line)
+            m = HEAD.match(line) or DEEP.match(line)
             if m and wants(m.group(1)):
                 w = m.group(1)
                 made[w] = OWN.get(w) or (snake(w) + "_holds" if w in LEMMA else snake(w))

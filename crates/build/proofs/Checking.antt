@@ -104,15 +104,15 @@ module _ (n L : ℕ) (ids : List ℕ) (z : Bool) (w : z ≡ (eqb n 0 || ltb 64 n
         unfolding checked_ids
         mismatch h = record { of_setup = λ ss cs ds ls. rw g (sym (row-4 n L ids ss cs ds ls a d e (rw g at h))) }
 
-        pub some-missing : (f.missing ≡ 0 → ⊥) → ChecksProcesses n L ids (P.ProcessSetMismatch f.missing f.unexpected)
-        some-missing h = mismatch (rw (lt-ltb 0 f.missing (omega arith)))
+        pub some_missing : (f.missing ≡ 0 → ⊥) → ChecksProcesses n L ids (P.ProcessSetMismatch f.missing f.unexpected)
+        some_missing h = mismatch (rw (lt-ltb 0 f.missing (omega arith)))
 
         module _ (i : f.missing ≡ 0) where
           none_missing : ltb 0 f.missing ≡ false
           none_missing = le-ltb 0 f.missing (omega arith)
 
-          pub some-unexpected : (f.unexpected ≡ 0 → ⊥) → ChecksProcesses n L ids (P.ProcessSetMismatch f.missing f.unexpected)
-          some-unexpected h = mismatch (rw none_missing (lt-ltb 0 f.unexpected (omega arith)))
+          pub some_unexpected : (f.unexpected ≡ 0 → ⊥) → ChecksProcesses n L ids (P.ProcessSetMismatch f.missing f.unexpected)
+          some_unexpected h = mismatch (rw none_missing (lt-ltb 0 f.unexpected (omega arith)))
 
           pub exactly : f.unexpected ≡ 0 → ChecksProcesses n L ids P.Accepted
           unfolding checked_ids

@@ -128,28 +128,28 @@ module _ (n : ℕ) (source : LpId) (ds ws : List ℕ) (stamp : ℕ) (marks : Lis
       opened : first_refusal (destination_rows n (lp_id_of source) [] (targets_for ds ws)) ≡ first_refusal (destination_rows n (lp_id_of source) (met i ds) (target_at ds ws i ∷ after))
       opened = s.left ∙ ap (λ (l : List Target). first_refusal (destination_rows n (lp_id_of source) (met i ds) l)) (targets_at ds ws i w h)
 
-      pub stamped-unknown : n ≤ d → row_checked (fault.UnknownTopologyDestination source destination)
-      stamped-unknown a = record { answer = sym (opened ∙ at_unknown n _ _ _ _ (rw e at a)); marked = s.low }
+      pub stamped_unknown : n ≤ d → row_checked (fault.UnknownTopologyDestination source destination)
+      stamped_unknown a = record { answer = sym (opened ∙ at_unknown n _ _ _ _ (rw e at a)); marked = s.low }
 
       module _ (a : d < n) (b : Bool) (q : b ≡ eqb (get_or ds i 0) (lp_id_of source)) where
-        pub stamped-self : b ≡ true → row_checked (fault.SelfLoop source)
-        stamped-self t = record { answer = sym (opened ∙ at_self n _ _ _ _ (rw e at a) (sym q ∙ t)); marked = s.low }
+        pub stamped_self : b ≡ true → row_checked (fault.SelfLoop source)
+        stamped_self t = record { answer = sym (opened ∙ at_self n _ _ _ _ (rw e at a) (sym q ∙ t)); marked = s.low }
 
         module _ (t : b ≡ false) where
-          pub stamped-twice : get_or marks d 0 ≡ stamp → row_checked (fault.DuplicateNeighbor source destination)
-          stamped-twice m = record { answer = sym (opened ∙ at-twice n _ _ _ _ (rw e at a) (sym q ∙ t) (rw e at (sym (s.seen d) ∙ eq-eqb _ _ m))); marked = s.low }
+          pub stamped_twice : get_or marks d 0 ≡ stamp → row_checked (fault.DuplicateNeighbor source destination)
+          stamped_twice m = record { answer = sym (opened ∙ at-twice n _ _ _ _ (rw e at a) (sym q ∙ t) (rw e at (sym (s.seen d) ∙ eq-eqb _ _ m))); marked = s.low }
 
           -- The lookahead at place i, and whether it is 0.
           module _ (m : get_or marks d 0 ≡ stamp → ⊥) (l : ℕ) (f : l ≡ tick_at ws (2 * i)) (z : Bool) (g : z ≡ eqb l 0) where
             first-met : member (get_or ds i 0) (met i ds) ≡ false
             first-met = rw e at (sym (s.seen d) ∙ ne_eqb _ _ m)
 
-            pub stamped-nought : z ≡ true → row_checked fault.InvalidEdgeLookahead
-            stamped-nought o = record { answer = sym (opened ∙ at-nought n _ _ _ _ (rw e at a) (sym q ∙ t) first-met (rw f at (sym g ∙ o))); marked = s.low }
+            pub stamped_nought : z ≡ true → row_checked fault.InvalidEdgeLookahead
+            stamped_nought o = record { answer = sym (opened ∙ at-nought n _ _ _ _ (rw e at a) (sym q ∙ t) first-met (rw f at (sym g ∙ o))); marked = s.low }
 
-            pub stamped-new : z ≡ false → Stamped n (lp_id_of source) ds ws stamp (set marks d stamp) (i + 1)
+            pub stamped_new : z ≡ false → Stamped n (lp_id_of source) ds ws stamp (set marks d stamp) (i + 1)
             unfolding member any
-            stamped-new o = record {
+            stamped_new o = record {
               within = omega arith;
               room = rw length-set s.room;
               left = opened ∙ at_new n _ _ _ _ (rw e at a) (sym q ∙ t) first-met (rw f at (sym g ∙ o)) ∙ met-more;
@@ -206,17 +206,17 @@ module _ (n : ℕ) (sources counts ds ws : List ℕ) where
       opened-row : all_decided ≡ first_refusal (topology_rows n (get_or sources i 0 ∷ drop (suc i) sources) (get_or counts i 0 ∷ drop (suc i) counts) (drop at (targets_for ds ws)))
       opened-row = t.left ∙ rw (drop-cons sources i 0 h, drop-cons counts i 0 (omega (arith, s.paired)))
 
-      pub turned-fits : at + get_or counts i 0 ≤ length ds
-      turned-fits = omega (arith, t.rest, sum_more counts i (omega (arith, s.paired)))
+      pub turned_fits : at + get_or counts i 0 ≤ length ds
+      turned_fits = omega (arith, t.rest, sum_more counts i (omega (arith, s.paired)))
 
       -- What the check of the row asks of its parts.
-      pub turned-ready : (end : ℕ) → end ≡ at + get_or counts i 0 → Unmarked n marks (i + 1) × (length (take (2 * end - 2 * at) (drop (2 * at) ws)) ≡ 2 * length (take (end - at) (drop at ds)))
-      turned-ready end f =
-          (record { room = omega (arith, s.few, t.room); unmarked = λ x. omega (arith, t.low x) }, part_beside ds ws s.beside at end (omega arith) (omega (arith, turned-fits)))
+      pub turned_ready : (end : ℕ) → end ≡ at + get_or counts i 0 → Unmarked n marks (i + 1) × (length (take (2 * end - 2 * at) (drop (2 * at) ws)) ≡ 2 * length (take (end - at) (drop at ds)))
+      turned_ready end f =
+          (record { room = omega (arith, s.few, t.room); unmarked = λ x. omega (arith, t.low x) }, part_beside ds ws s.beside at end (omega arith) (omega (arith, turned_fits)))
 
       module _ (p : ℕ) (e : p ≡ get_or sources i 0) where
-        pub turned-unknown : n ≤ p → some (UnknownTopologySource (get_or sources i 0)) ≡ all_decided
-        turned-unknown a = sym (opened-row ∙ row_unknown n _ _ _ _ _ (rw e at a))
+        pub turned_unknown : n ≤ p → some (UnknownTopologySource (get_or sources i 0)) ≡ all_decided
+        turned_unknown a = sym (opened-row ∙ row_unknown n _ _ _ _ _ (rw e at a))
 
         -- What the row decides, and the rows after it.
         module _ (a : p < n) (end : ℕ) (f : end ≡ at + get_or counts i 0) (after : List ℕ) (r : TopologyCheck) (j : CheckedRow n (get_or sources i 0) (targets_for (take (end - at) (drop at ds)) (take (2 * end - 2 * at) (drop (2 * at) ws))) after (i + 1) r) where
@@ -226,11 +226,11 @@ module _ (n : ℕ) (sources counts ds ws : List ℕ) where
               let d : drop (get_or counts i 0) (drop at (targets_for ds ws)) ≡ drop end (targets_for ds ws) = drop-drop (get_or counts i 0) at (targets_for ds ws) ∙ rw (← f) in
               rw (j.answer, ← targets_part ds ws s.beside at end (omega arith), g, ← d) (opened-row ∙ row_else n _ _ _ _ _ (rw e at a))
 
-          pub turned-refused : OneOf refusing (tag_of the_type r) → refusal_of r ≡ all_decided
-          turned-refused w = sym (turned-else ∙ refused_first _ r w)
+          pub turned_refused : OneOf refusing (tag_of the_type r) → refusal_of r ≡ all_decided
+          turned_refused w = sym (turned-else ∙ refused_first _ r w)
 
-          pub turned-sound : r ≡ fault.Valid → length after ≡ length marks → Turned n sources counts ds ws after end (i + 1)
-          turned-sound v w = record {
+          pub turned_sound : r ≡ fault.Valid → length after ≡ length marks → Turned n sources counts ds ws after end (i + 1)
+          turned_sound v w = record {
             within = omega arith;
             room = w ∙ t.room;
             rest = omega (arith, t.rest, sum_more counts i (omega (arith, s.paired)));

@@ -39,18 +39,18 @@ module _ (sources counts ds ws : List ℕ) where
     fit_unordered k = record { of_setup = λ n l ids. rw (eq-eqb (length sources) (length counts) h, k) }
 
     module _ (k : rising ltb sources ≡ true) where
-      pub fit-unused : eqb (sum counts) (length ds) ≡ false → RowsWellFormed sources counts ds ws false
+      pub fit_unused : eqb (sum counts) (length ds) ≡ false → RowsWellFormed sources counts ds ws false
       unfolding malformed_rows any_of any
-      fit-unused s = record { of_setup = λ n l ids. rw (eq-eqb (length sources) (length counts) h, k, s) }
+      fit_unused s = record { of_setup = λ n l ids. rw (eq-eqb (length sources) (length counts) h, k, s) }
 
       module _ (s : eqb (sum counts) (length ds) ≡ true) where
-        pub fit-many : 512 < length ds → RowsWellFormed sources counts ds ws false
+        pub fit_many : 512 < length ds → RowsWellFormed sources counts ds ws false
         unfolding malformed_rows any_of any
-        fit-many m = record { of_setup = λ n l ids. rw (eq-eqb (length sources) (length counts) h, k, s, lt-ltb 512 (length ds) m) }
+        fit_many m = record { of_setup = λ n l ids. rw (eq-eqb (length sources) (length counts) h, k, s, lt-ltb 512 (length ds) m) }
 
-        pub fit-used : length ds ≤ 512 → RowsWellFormed sources counts ds ws (eqb (length ws) (2 * length ds))
+        pub fit_used : length ds ≤ 512 → RowsWellFormed sources counts ds ws (eqb (length ws) (2 * length ds))
         unfolding malformed_rows any_of any
-        fit-used m = record { of_setup = λ n l ids. rw (eq-eqb (length sources) (length counts) h, k, s, le-ltb 512 (length ds) m, words_beside ds ws) (same (eqb (length ws) (2 * length ds))) }
+        fit_used m = record { of_setup = λ n l ids. rw (eq-eqb (length sources) (length counts) h, k, s, le-ltb 512 (length ds) m, words_beside ds ws) (same (eqb (length ws) (2 * length ds))) }
           where
             same : (b : Bool) → b ≡ not (not b || false)
             same true = refl

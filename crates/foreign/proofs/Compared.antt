@@ -8,7 +8,7 @@ use lib.Dec.{eqb}
 use Rattle.types.specs.declared.SimTime.{SimTime}
 use Rattle.types.specs.Value.{ticks_of}
 use Rattle.words.specs.Words.{tab, inbound_at, inbounds_of}
-use Rattle.records.proofs.Passes.{Seeking, answer-found, seeking_end}
+use Rattle.records.proofs.Passes.{Seeking, answer_found, seeking_end}
 use Rattle.rules.specs.Base.{up_from, up_to, any, any_of}
 use Rattle.rules.specs.State.{Edge}
 use Rattle.rules.specs.Frontiers.{least_inbound, recorded}
@@ -39,7 +39,7 @@ module _ (test : ℕ → Bool) (n p : ℕ) where
   found e = e ∙ ap (any test) (numbers 0 n)
 
   pub tick_wrong : p < n → Seeking test each n p → (b : Bool) → b ≡ test p → b ≡ true → true ≡ any test (up_to n)
-  tick_wrong h s b q t = found (answer-found test each n p h s b q t)
+  tick_wrong h s b q t = found (answer_found test each n p h s b q t)
 
   pub ticks_right : n ≤ p → Seeking test each n p → false ≡ any test (up_to n)
   unfolding up_to

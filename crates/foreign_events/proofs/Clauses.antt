@@ -11,7 +11,7 @@ use Rattle.rules.specs.Foreign.{unknown_id_event, long_payload, by_process}
 use Rattle.records.specs.Records.{event_of, record_in, event_at, events_of}
 use Rattle.records.specs.declared.Record.{Record}
 use Rattle.records.proofs.Stored.{event_read, length_payload}
-use Rattle.records.proofs.Passes.{Seeking, seeking_more, seeking_found, seeking_end, Climbing, climbing-more, climbing-stop}
+use Rattle.records.proofs.Passes.{Seeking, seeking_more, seeking_found, seeking_end, Climbing, climbing_more, climbing_stop}
 use Rattle.foreign_events.specs.Clauses.{invalid_event, any_invalid_event}
 
 -- Each return of the test of one event.
@@ -63,7 +63,7 @@ module _ (w : List ℕ) (n i : ℕ) (r t : Record) (h : i + 1 < n) (s : Climbing
   neighbours = λ k. by_process (event_read w i r p k) (event_read w (i + 1) t q k)
 
   pub next_ahead : r.destination < t.destination → Climbing by_process (event_at w) n (i + 1)
-  next_ahead l = climbing-more by_process (event_at w) n i h s (neighbours ∙ lt-ltb r.destination t.destination l)
+  next_ahead l = climbing_more by_process (event_at w) n i h s (neighbours ∙ lt-ltb r.destination t.destination l)
 
   pub next_behind : t.destination ≤ r.destination → false ≡ rising by_process (events_of n w)
-  next_behind l = climbing-stop by_process (event_at w) n i h s (neighbours ∙ le-ltb r.destination t.destination l)
+  next_behind l = climbing_stop by_process (event_at w) n i h s (neighbours ∙ le-ltb r.destination t.destination l)

@@ -120,8 +120,8 @@ module _ (h : Header) (look : ℕ → ℕ → ℕ) (T Z B : List ℕ) (a : Reply
           outcome_is = outcome-more;
         }
 
-      pub checked-more : Checked h look T Z B a (xs ++ (x ∷ [])) r
-      checked-more = by_bool b.going more-going more-stopped
+      pub checked_more : Checked h look T Z B a (xs ++ (x ∷ [])) r
+      checked_more = by_bool b.going more-going more-stopped
 
 -- The first i emissions of a reply in words are checked.
 module _ (h : Header) (look : ℕ → ℕ → ℕ) (T Z B : List ℕ) (a : ReplyCheck) (w : List ℕ) where
@@ -135,16 +135,16 @@ module _ (h : Header) (look : ℕ → ℕ → ℕ) (T Z B : List ℕ) (a : Reply
     checking_start n = record { within = omega arith; checked = checked_start h look T Z B a d }
 
     module _ (n i : ℕ) (b : ReplyCheck) (t : Checking n i b) where
-      pub checking-asks : b.going ≡ true → Checkable h T Z B
-      checking-asks g = still_checkable h look T Z B a d (emissions_of i w) b t.checked g
+      pub checking_asks : b.going ≡ true → Checkable h T Z B
+      checking_asks g = still_checkable h look T Z B a d (emissions_of i w) b t.checked g
 
-      pub checking-more : i < n → (e : Emission) → emission_of e ≡ emission_in w (8 * i) → (l : SimDuration) → duration_of l ≡ look (lp_id_of e.emitter) (lp_id_of e.destination) → (r : ReplyCheck) → Checks h (duration_of l) T Z B b e r → Checking n (i + 1) r
+      pub checking_more : i < n → (e : Emission) → emission_of e ≡ emission_in w (8 * i) → (l : SimDuration) → duration_of l ≡ look (lp_id_of e.emitter) (lp_id_of e.destination) → (r : ReplyCheck) → Checks h (duration_of l) T Z B b e r → Checking n (i + 1) r
       unfolding emission_at
-      checking-more m e y l k r s = record {
+      checking_more m e y l k r s = record {
         within = omega arith;
         checked = rw (tab_push (emission_at w) i)
             (subst (λ (z : Rule.Emission). Checked h look T Z B a (emissions_of i w ++ (z ∷ [])) r) y
-            (checked-more h look T Z B a d (emissions_of i w) b t.checked e r (subst (λ (x : ℕ). Checks h x T Z B b e r) k s)));
+            (checked_more h look T Z B a d (emissions_of i w) b t.checked e r (subst (λ (x : ℕ). Checks h x T Z B b e r) k s)));
       }
 
   pub checking_end : (n i : ℕ) (b : ReplyCheck) → n ≤ i → Checking n i b → Checked h look T Z B a (emissions_of n w) b

@@ -126,15 +126,15 @@ module _ (h : Header) (L : ℕ) (T Z B : List ℕ) (a : ReplyCheck) (e : Emissio
           outcome_is = λ _. n;
         }))
 
-        pub check-refused : a.outcome.passed ≡ false → (r : ReplyCheck) → r ≡ checked_as a w m a.outcome → Checks h L T Z B a e r
-        check-refused y r z = next a.outcome (stays_refused _ y) r z
+        pub check_refused : a.outcome.passed ≡ false → (r : ReplyCheck) → r ≡ checked_as a w m a.outcome → Checks h L T Z B a e r
+        check_refused y r z = next a.outcome (stays_refused _ y) r z
 
-        pub check-behind : a.failed < w → (r : ReplyCheck) → r ≡ checked_as a w m a.outcome → Checks h L T Z B a e r
-        check-behind l r z = next a.outcome (stays_behind _ (rw same at l)) r z
+        pub check_behind : a.failed < w → (r : ReplyCheck) → r ≡ checked_as a w m a.outcome → Checks h L T Z B a e r
+        check_behind l r z = next a.outcome (stays_behind _ (rw same at l)) r z
 
-        pub check-checked : a.outcome.passed ≡ true → w ≤ a.failed → (time : SimTime) → ticks_of time ≡ tick_of T B w → (v : CheckResult) → ChecksEmission h L Z e time v
+        pub check_checked : a.outcome.passed ≡ true → w ≤ a.failed → (time : SimTime) → ticks_of time ≡ tick_of T B w → (v : CheckResult) → ChecksEmission h L Z e time v
             → (r : ReplyCheck) → r ≡ checked_as a w m v → Checks h L T Z B a e r
-        check-checked y l time u v j r z =
+        check_checked y l time u v j r z =
             let t : ticks_of time ≡ first_tick q (lp_id_of e.emitter) 0 = u ∙ ap (tick_of T B) same ∙ tick_is in
             next v (rw (← t) (checks_it y (rw same at l) time v j)) r z
 

@@ -98,9 +98,9 @@ module _ (h : Header) (c : Counters) (E Q Z B : List ℕ) (mask : ℕ) (xs : Lis
             ap (λ (o : Out). leaves_state_as_given o.answer) (sym (refused d u es))
             ∙ lost_moves (view h E Q Z B) (view h E Q Z B) (counters_of c) mask xs (events_of h.batch B) d (committed_moves 0)
 
-        pub back-lost : v.passed ≡ false → (r : CoreResult) (B' : List ℕ) → Poisons v.answer h c r → HandsBack h c E Q Z B mask xs r Q Z B'
+        pub back_lost : v.passed ≡ false → (r : CoreResult) (B' : List ℕ) → Poisons v.answer h c r → HandsBack h c E Q Z B mask xs r Q Z B'
         unfolding tab
-        back-lost u r B' d = rw d (record {
+        back_lost u r B' d = rw d (record {
           gives = sym (judged (view h E Q Z B) (counters_of c) mask xs l.passes p held e ∙ refused (settled (view h E Q Z B) (counters_of c) xs) u []);
           kept = λ es x. not_both x (lost u es);
         })
@@ -113,8 +113,8 @@ module _ (h : Header) (c : Counters) (E Q Z B : List ℕ) (mask : ℕ) (xs : Lis
             let a : Out = out (A.Committed 0) s (counters_of c) in
             fits s mask xs (shaped s l.passes) e (none_decides (process_rows s mask xs s.batch) (poison_with s (counters_of c)) a (λ r z. true≢false (ap (λ (o : Out). H.refused o.answer) z)) (verdict.passed u (poison_with s (counters_of c)) a))
 
-        pub back-settled : v.passed ≡ true → (r : CoreResult) (Q' Z' B' : List ℕ) → Settles h c E Q Z B xs r Q' Z' B' → HandsBack h c E Q Z B mask xs r Q' Z' B'
-        back-settled u r Q' Z' B' d = record {
+        pub back_settled : v.passed ≡ true → (r : CoreResult) (Q' Z' B' : List ℕ) → Settles h c E Q Z B xs r Q' Z' B' → HandsBack h c E Q Z B mask xs r Q' Z' B'
+        back_settled u r Q' Z' B' d = record {
           gives = d.gives (fitting u) ∙ sym (judged (view h E Q Z B) (counters_of c) mask xs l.passes p held e
               ∙ verdict.passed u (poison_with (view h E Q Z B) (counters_of c)) (settled (view h E Q Z B) (counters_of c) xs));
           kept = λ es x. not_both x (d.moves es);

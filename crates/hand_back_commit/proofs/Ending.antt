@@ -45,7 +45,7 @@ use Rattle.hand_back_commit.specs.HandsBack.{HandsBack}
 use Rattle.hand_back_commit.specs.Commits.{InHand, ReplyChecked, Finishes, Fits, refusal_of, Accepts, Passes, FinalCheck, CanEnd, Ends}
 use Rattle.hand_back_commit.proofs.QueueRows as S
 use Rattle.hand_back_commit.proofs.QueueRows.{Settles}
-use Rattle.hand_back_commit.proofs.Back.{back-lost, back-settled}
+use Rattle.hand_back_commit.proofs.Back.{back_lost, back_settled}
 
 -- A verdict with 27 behind the rows that a's is of.
 record Word (a : ReplyCheck) (v : CheckResult) : Type 0 where
@@ -117,11 +117,11 @@ module _ (h : Header) (c : Counters) (E Q Z B : List ℕ) (a : ReplyCheck) (k : 
     judges = checks_same _ _ v (rows_alike (view h E Q Z B) mask (events_of h.batch B) xs (well_formed _ mask xs (batch_order h E Q Z B l.passes) t.not_malformed) placed (well _ mask xs t.not_malformed)) (rw t.failed_is at (w.decides _ t.outcome_is))
 
     on : v.passed ≡ true → (r : CoreResult) (Q' Z' B' : List ℕ) → Settles h c E Q Z B xs r Q' Z' B' → HandsBack h c E Q Z B mask xs r Q' Z' B'
-    on x = back-settled h c E Q Z B mask xs l g.healthy none t.not_malformed v judges x
+    on x = back_settled h c E Q Z B mask xs l g.healthy none t.not_malformed v judges x
 
   finish_lost : v.passed ≡ false → (r : CoreResult) (B' : List ℕ) → Poisons v.answer h c r → Finishes h c E Q Z B a k r Q Z B'
   unfolding Finishes
-  finish_lost x r B' d mask xs t = back-lost h c E Q Z B mask xs l g.healthy none t.not_malformed v (judges mask xs t) x r B' d
+  finish_lost x r B' d mask xs t = back_lost h c E Q Z B mask xs l g.healthy none t.not_malformed v (judges mask xs t) x r B' d
 
   module _ (x : v.passed ≡ true) where
     finish_late : (r : CoreResult) (B' : List ℕ) → max_count < h.next + k → Poisons P.EventSequenceOverflow h c r → Finishes h c E Q Z B a k r Q Z B'
@@ -137,7 +137,7 @@ module _ (h : Header) (c : Counters) (E Q Z B : List ℕ) (a : ReplyCheck) (k : 
           → (d : Counters) (Z' : List ℕ) (r : CoreResult) → CountsRound c h.batch k a.remote d → EndsRound (committed_header h k (saturating_add h.used h.batch)) d Q' Z r Z' → HandsBack h c E Q Z B mask xs r Q' Z' B'
       finish-on z mask xs t Q' B' q d Z' r ct cn =
           let m : a.remote ≡ count is_remote xs = t.remote ∙ omega (arith, count_most xs, t.number) in
-          on mask xs t x r Q' Z' B' (S.settle-on h c E Q Z B xs k t.number l g.in_hand_holds y z Q' B' q d a.remote Z' r m ct cn)
+          on mask xs t x r Q' Z' B' (S.settle_on h c E Q Z B xs k t.number l g.in_hand_holds y z Q' B' q d a.remote Z' r m ct cn)
 
 -- What the program's functions give.
 module _ (failed next pending k : ℕ) where
@@ -151,13 +151,13 @@ module _ (failed next pending k : ℕ) where
     refusal_19 t = rw (le-ltb failed 64 f, sym ex ∙ t)
 
     module _ (t : x ≡ false) (y : Bool) (ey : y ≡ ltb max_pending (pending + k)) where
-      pub refusal-18 : y ≡ true → P.QueueFull ≡ refusal_of failed next pending k
+      pub refusal_18 : y ≡ true → P.QueueFull ≡ refusal_of failed next pending k
       unfolding refusal_of if◌then◌else◌
-      refusal-18 u = rw (le-ltb failed 64 f, sym ex ∙ t, sym ey ∙ u)
+      refusal_18 u = rw (le-ltb failed 64 f, sym ex ∙ t, sym ey ∙ u)
 
-      pub refusal-none : y ≡ false → P.Accepted ≡ refusal_of failed next pending k
+      pub refusal_none : y ≡ false → P.Accepted ≡ refusal_of failed next pending k
       unfolding refusal_of if◌then◌else◌
-      refusal-none u = rw (le-ltb failed 64 f, sym ex ∙ t, sym ey ∙ u)
+      refusal_none u = rw (le-ltb failed 64 f, sym ex ∙ t, sym ey ∙ u)
 
 pub accepts : (a : Answer) → a ≡ P.Accepted → Accepts a true
 accepts a e = record { is = λ _. e; is_not = λ x. not_both refl x }

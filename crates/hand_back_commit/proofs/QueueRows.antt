@@ -115,9 +115,9 @@ module _ (h : Header) (c : Counters) (E Q Z B : List ℕ) (xs : List Emission) (
             let v : u ≡ saturating_add h.used (length (events_of h.batch B)) = ap (saturating_add h.used) (sym (length_tab (event_at B) 0 h.batch)) in
             λ j. with_handled (view h E Q Z B) (q j) (i j) (v j)
 
-        pub settle-on : (d : Counters) (remote : ℕ) (Z' : List ℕ) (r : CoreResult) → remote ≡ count is_remote xs → CountsRound c h.batch k remote d → EndsRound (committed_header h k u) d Q' Z r Z' → Settles h c E Q Z B xs r Q' Z' B'
+        pub settle_on : (d : Counters) (remote : ℕ) (Z' : List ℕ) (r : CoreResult) → remote ≡ count is_remote xs → CountsRound c h.batch k remote d → EndsRound (committed_header h k u) d Q' Z r Z' → Settles h c E Q Z B xs r Q' Z' B'
         unfolding CountsRound
-        settle-on d remote Z' r er ct cn =
+        settle_on d remote Z' r er ct cn =
             let cs : counters_of d ≡ count_round (counters_of c) (events_of h.batch B) xs = ct (events_of h.batch B) xs (length_tab (event_at B) 0 h.batch) n (sym er) in
             let is : (view h E Q Z B).stored ≡ stored (ticks_of h.horizon) h.budget = stored_is h.stored (ticks_of h.horizon) h.budget (is_stored h E Q Z B m.passes runs) in
             record {

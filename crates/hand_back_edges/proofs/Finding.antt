@@ -180,9 +180,9 @@ module _ (E t T : List ℕ) (c : CanLook E t T) (e : Emission) (a : ℕ) (sa : a
         pub edge_there : 6 * (k - 1) + 6 ≤ length E
         edge_there = omega (arith, q, i, c.entries (entry_place T a b))
 
-        pub told-edge : (r : SimDuration) → duration_of r ≡ (edge_at E (k - 1)).lookahead → Told r
+        pub told_edge : (r : SimDuration) → duration_of r ≡ (edge_at E (k - 1)).lookahead → Told r
         unfolding entry_lookahead
-        told-edge = let s : k ≡ suc (k - 1) = omega arith in told (edge_at E (k - 1)).lookahead (in_row E t T a b p l ∙ ap (entry_lookahead E) (sym i ∙ s))
+        told_edge = let s : k ≡ suc (k - 1) = omega arith in told (edge_at E (k - 1)).lookahead (in_row E t T a b p l ∙ ap (entry_lookahead E) (sym i ∙ s))
 
 pub read_lookahead : (E : List ℕ) (i : ℕ) (r : SimDuration) → duration_of r ≡ halves (get_or E (6 * i + 2) 0) (get_or E (6 * i + 3) 0) → duration_of r ≡ (edge_at E i).lookahead
 unfolding edge_at tick_at

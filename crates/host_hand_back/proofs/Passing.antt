@@ -14,7 +14,7 @@ use Rattle.hand_back_enqueue.specs.Enqueued.{Enqueued}
 use Rattle.hand_back_enqueue.proofs.Enqueueing.{map_snoc, enqueued_none, enqueued_asks, enqueued_more}
 use Rattle.hand_back_check.specs.declared.ReplyCheck.{ReplyCheck}
 use Rattle.hand_back_check.specs.Checks.{Checks}
-use Rattle.hand_back_check.proofs.Checking.{checked_start, still_checkable, checked-more}
+use Rattle.hand_back_check.proofs.Checking.{checked_start, still_checkable, checked_more}
 use Rattle.host_hand_back.specs.declared.Scan.{Scan}
 use Rattle.host_hand_back.specs.declared.Admission.{Admission}
 use Rattle.host_hand_back.specs.Passes.{reply_of, places_in, processes_in, batch_in, look_of, Checkable, ChecksNext, Begun, Scanned, Enqueueable, EnqueuesNext, Admitted, Queued}
@@ -31,7 +31,7 @@ module _ (D : List ℕ) (a : Scan) (d : Begun D a) where
     pub scanned_more : (e : Emission) (r : Scan) → ChecksNext D b e r → Scanned D a (ys ++ (e ∷ [])) r
     scanned_more e r s = record {
       same_head = s.same_head ∙ t.same_head;
-      checked = rw (map_snoc emission_of ys e) (checked-more a.head (look_of D) (places_in D) (processes_in D) (batch_in D) a.check d (reply_of ys) b.check t.checked e r.check (rw t.same_head at s.checks));
+      checked = rw (map_snoc emission_of ys e) (checked_more a.head (look_of D) (places_in D) (processes_in D) (batch_in D) a.check d (reply_of ys) b.check t.checked e r.check (rw t.same_head at s.checks));
     }
 
 -- One emission of it, by the lookahead l.

@@ -106,14 +106,14 @@ module _ (b : List Bool) where
     edges_cut e = lists_at ∙ rw e
 
     module _ {n first p : ℕ} (es : CountedList edge b 327 n first p) where
-      pub initial-cut : rest ((counted 10 message).get (drop p b)) ≡ short → rest (plan.get b) ≡ short
+      pub initial_cut : rest ((counted 10 message).get (drop p b)) ≡ short → rest (plan.get b) ≡ short
       unfolding onward
-      initial-cut e = lists_at ∙ rw (counted_rest es, e)
+      initial_cut e = lists_at ∙ rw (counted_rest es, e)
 
       module _ {k start q : ℕ} (is : CountedList message b p k start q) where
-        pub replies-cut : rest ((counted 10 reply).get (drop q b)) ≡ short → rest (plan.get b) ≡ short
+        pub replies_cut : rest ((counted 10 reply).get (drop q b)) ≡ short → rest (plan.get b) ≡ short
         unfolding onward
-        replies-cut e = lists_at ∙ rw (counted_rest es, counted_rest is, e)
+        replies_cut e = lists_at ∙ rw (counted_rest es, counted_rest is, e)
 
         module _ {m from end : ℕ} (rs : CountedList reply b q m from end) where
           abbrev found : Parts

@@ -45,12 +45,12 @@ module _ {A : Type 0} (f : Format A) (b : List Bool) where
 
   module _ (whole : Got (Unit {0})) (left p : ℕ) (inv : whole ≡ rest (gets f left (drop p b))) where
     module _ {r : Place} (h : 0 < left) (w : Walked b (rest (f.get (drop p b))) r) where
-      pub many-short : r ≡ Short → Walked b whole Short
-      many-short s = walk_short w whole _ (inv ∙ one_less left (drop p b) h) s
+      pub many_short : r ≡ Short → Walked b whole Short
+      many_short s = walk_short w whole _ (inv ∙ one_less left (drop p b) h) s
 
-      pub many-on : (q : ℕ) → r ≡ At q → whole ≡ rest (gets f (left - 1) (drop q b))
+      pub many_on : (q : ℕ) → r ≡ At q → whole ≡ rest (gets f (left - 1) (drop q b))
       unfolding onward
-      many-on q s =
+      many_on q s =
           let x-is : got tt (drop q b) ≡ rest (f.get (drop p b)) = rw s at w.ends in
           inv ∙ one_less left (drop p b) h ∙ rw (sym x-is)
 
@@ -88,9 +88,9 @@ module _ {A : Type 0} (f : Format A) (b : List Bool) (at : ℕ) (h : at ≤ leng
         rw (le-leb 10 (length (drop at b)) d, drop-drop 10 at b, m)
 
     module _ {r : Place} {x : Got (Unit {0})} (e : rest (gets f n (drop (at + 10) b)) ≡ x) (w : Walked b x r) where
-      pub list-cut : r ≡ Short → Counts f b at Cut
+      pub list_cut : r ≡ Short → Counts f b at Cut
       unfolding next
-      list-cut s =
+      list_cut s =
           let x-is : short ≡ x = rw s at w.ends in
           rest_counted 10 f (drop at b) ∙ rw count_is (e ∙ sym x-is)
 

@@ -78,8 +78,8 @@ module _ (b : List Bool) (at : ℕ) (q : LpId) (w₀ : List ℕ) (from : ℕ) wh
       here : Standing message b p (get_or ms (i - from) blank ∷ drop (suc (i - from)) ms)
       here = rw (drop-cons ms (i - from) blank below) at (g.stands ms behind e)
 
-      pub more-here : IsGot (message.get (drop p b))
-      more-here = is_got _ _ _ (first_stands here)
+      pub more_here : IsGot (message.get (drop p b))
+      more_here = is_got _ _ _ (first_stands here)
 
       module _ {u : List ℕ} {next : ℕ} (t : EmissionWritten b p q w i u next) where
         next-stands : Standing message b next (drop (i + 1 - from) ms)
@@ -139,7 +139,7 @@ module _ (s : List ℕ) (at from n : ℕ) (c : CanWrite (stream s) at from n) wh
     can_hold = rw length_is at (c.room v.value v.behind v.is)
 
     pub can_go_on : {q : LpId} {w₀ w : List ℕ} {p i : ℕ} → Progress (stream s) at q w₀ from w p i → i < from + k → IsGot (message.get (drop p (stream s)))
-    can_go_on {q} {w₀} g h = more-here (stream s) at q w₀ from g v.value v.behind v.is (rw length_is h)
+    can_go_on {q} {w₀} g h = more_here (stream s) at q w₀ from g v.value v.behind v.is (rw length_is h)
 
 -- What the first emissions were alike, they still are, with those written behind them.
 pub emissions_after : (b : List Bool) (at : ℕ) (q : LpId) (w : List ℕ) (from : ℕ) (u : List ℕ) (r : ℕ) → EmissionsWritten b at q w from u r

@@ -103,8 +103,8 @@ module _ (s t y : List ℕ) (have q : ℕ) (small : q < 64) (i : ℕ) (is : i �
           subst (λ (ms : List Message). Alike LikeEmission (map (emission q) ms) (tab (emission_at y') have (length ms))) (sym due_is)
           (subst (λ (x : ℕ). Alike LikeEmission (map (emission x) due_now.messages) (tab (emission_at y') have (length due_now.messages))) id (w.like due_now.messages here.behind messages_here))
 
-      pub emits-more : (xs : List Emission) → Emits y have xs → Emits y' n (xs ++ map (emission q) (reply_of q left))
-      emits-more xs e = record {
+      pub emits_more : (xs : List Emission) → Emits y have xs → Emits y' n (xs ++ map (emission q) (reply_of q left))
+      emits_more xs e = record {
         count = let l : length (xs ++ map (emission q) (reply_of q left)) ≡ length xs + length (reply_of q left) = rw (length-append, length-map) in omega (arith, count_is, e.count);
         alike = subst (Alike LikeEmission (xs ++ map (emission q) (reply_of q left))) (sym emissions-are) (alike_append LikeEmission xs (emissions_of have y) _ _ e.alike new-ones);
       }
@@ -113,4 +113,4 @@ module _ (s t y : List ℕ) (have q : ℕ) (small : q < 64) (i : ℕ) (is : i �
     link_taken = subst (λ (j : ℕ). Table (stream s) rs (without q left) 0 (set t q (get_or t j 0))) link_is (reply_taken (stream s) rs left t g q small (i - 1) number)
 
   pub takes_reply : (p : LpId) → lp_id_of p ≡ q → (y' : List ℕ) (n : ℕ) → EmissionsWritten (stream s) (get_or t (62 + 2 * i) 0 + 6) p y have y' n → Takes s t y have q (set t q (get_or t (63 + 2 * i) 0)) y' n
-  takes_reply p id y' n w = record { emits = λ rs left xs g e. emits-more rs left g p id y' n w xs e; table = λ rs left g. link_taken rs left g }
+  takes_reply p id y' n w = record { emits = λ rs left xs g e. emits_more rs left g p id y' n w xs e; table = λ rs left g. link_taken rs left g }

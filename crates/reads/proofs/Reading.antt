@@ -62,18 +62,18 @@ module _ (s : Runtime) where
       passed : (a b : A.Reading) → a ≡ b → out (A.Read a) (view_of s) (counters_of c) ≡ read (view_of s) (counters_of c) b
       passed a b q = ap (λ (r : A.Reading). out (A.Read r) (view_of s) (counters_of c)) q ∙ read_passed (view_of s) (counters_of c) b passes
 
-      pub gvt-read : Reads read_gvt s c (P.Gvt s.head.gvt)
+      pub gvt_read : Reads read_gvt s c (P.Gvt s.head.gvt)
       unfolding read_gvt
-      gvt-read = numbered _ s c _ (passed _ _ refl)
+      gvt_read = numbered _ s c _ (passed _ _ refl)
 
-      pub counters-read : Reads read_counters s c (P.Counted c s.head.used)
+      pub counters_read : Reads read_counters s c (P.Counted c s.head.used)
       unfolding read_counters
-      counters-read = numbered _ s c _ (passed _ _ refl)
+      counters_read = numbered _ s c _ (passed _ _ refl)
 
-      pub pending-read : Reads read_pending s c (P.Pending s.head.pending)
+      pub pending_read : Reads read_pending s c (P.Pending s.head.pending)
       unfolding read_pending
-      pending-read = numbered _ s c _ (passed _ _ (ap A.Pending (sym (length_tab (event_at s.pending) 0 s.head.pending))))
+      pending_read = numbered _ s c _ (passed _ _ (ap A.Pending (sym (length_tab (event_at s.pending) 0 s.head.pending))))
 
-      pub earliest-read : (t cap : SimTime) → ticks_of t ≡ least (ticks_of cap) (event_ticks (events_of s.head.pending s.pending)) → ticks_of cap ≡ max_tick → Reads read_earliest s c (P.Earliest t)
+      pub earliest_read : (t cap : SimTime) → ticks_of t ≡ least (ticks_of cap) (event_ticks (events_of s.head.pending s.pending)) → ticks_of cap ≡ max_tick → Reads read_earliest s c (P.Earliest t)
       unfolding read_earliest
-      earliest-read t cap q k = numbered _ s c _ (passed _ _ (ap A.Earliest (q ∙ ap (λ (m : ℕ). least m (event_ticks (events_of s.head.pending s.pending))) k)))
+      earliest_read t cap q k = numbered _ s c _ (passed _ _ (ap A.Earliest (q ∙ ap (λ (m : ℕ). least m (event_ticks (events_of s.head.pending s.pending))) k)))

@@ -16,7 +16,7 @@ use Rattle.records.specs.declared.Record.{Record}
 use Rattle.records.specs.Records.{event_of, record_in, event_at, events_of}
 use Rattle.records.specs.Queue.{event_ticks}
 use Rattle.records.proofs.Stored.{event_read, event_tick}
-use Rattle.records.proofs.Passes.{Climbing, climbing-more, climbing-stop}
+use Rattle.records.proofs.Passes.{Climbing, climbing_more, climbing_stop}
 
 -- The least of m and f i, f (i + 1), .., those below n: a pass over any numbers.
 module _ (f : ℕ → ℕ) (n : ℕ) where
@@ -45,7 +45,7 @@ module _ (w : List ℕ) (n i : ℕ) (r : Record) (b : Bool) (h : i + 1 < n) (s :
   tested t g = ap (before (event_at w i)) (event_read w (i + 1) r e) ∙ sym q ∙ g
 
   pub next_passed : not b ≡ false → Climbing before (event_at w) n (i + 1)
-  next_passed g = climbing-more before (event_at w) n i h s (tested true (not-false b g))
+  next_passed g = climbing_more before (event_at w) n i h s (tested true (not-false b g))
 
   pub next_stops : not b ≡ true → false ≡ rising before (events_of n w)
-  next_stops g = climbing-stop before (event_at w) n i h s (tested false (not-true b g))
+  next_stops g = climbing_stop before (event_at w) n i h s (tested false (not-true b g))

@@ -32,8 +32,8 @@ module _ {A : Type 0} (test : A → Bool) (f : ℕ → A) (n : ℕ) where
       pub answer_passed : b ≡ false → Seeking (i + 1)
       answer_passed t = seeking_more (sym q ∙ t)
 
-      pub answer-found : b ≡ true → true ≡ any test (tab f 0 n)
-      answer-found t = seeking_found (sym q ∙ t)
+      pub answer_found : b ≡ true → true ≡ any test (tab f 0 n)
+      answer_found t = seeking_found (sym q ∙ t)
 
   pub seeking_end : (i : ℕ) → n ≤ i → Seeking i → false ≡ any test (tab f 0 n)
   unfolding any
@@ -60,11 +60,11 @@ module _ {A : Type 0} (before : A → A → Bool) (f : ℕ → A) where
       unfolding rising
       above = let k : i < n = omega arith in rw (tab_next f (i + 1) n h) (rw (tab_next f i n k, tab_next f (i + 1) n h) at s.rest)
 
-      pub climbing-more : before (f i) (f (i + 1)) ≡ true → Climbing (i + 1)
-      climbing-more t = record { within = omega arith; rest = rw t at above }
+      pub climbing_more : before (f i) (f (i + 1)) ≡ true → Climbing (i + 1)
+      climbing_more t = record { within = omega arith; rest = rw t at above }
 
-      pub climbing-stop : before (f i) (f (i + 1)) ≡ false → false ≡ rising before (tab f 0 n)
-      climbing-stop t = rw t at above
+      pub climbing_stop : before (f i) (f (i + 1)) ≡ false → false ≡ rising before (tab f 0 n)
+      climbing_stop t = rw t at above
 
     pub climbing_end : (i : ℕ) → n ≤ i + 1 → Climbing i → true ≡ rising before (tab f 0 n)
     climbing_end i h s = sym (short i (n - i) (omega arith)) ∙ s.rest

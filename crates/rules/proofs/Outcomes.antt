@@ -50,9 +50,9 @@ module _ (s : State) (c : Counters) where
       if-rose : (t : Bool) → a.rose ≡ t → answer_advance (record { state = a.state; raised = a.raised; rose = t }) c h ≡ advance_in_place s c h
       if-rose t r = (λ j. answer_advance (record { state = a.state; raised = a.raised; rose = sym r j }) c h) ∙ answered
 
-      pub rises-in-place : a.rose ≡ true → out (A.Advanced a.state.gvt) a.state (count_advance c a.raised) ≡ advance_in_place s c h
+      pub rises_in_place : a.rose ≡ true → out (A.Advanced a.state.gvt) a.state (count_advance c a.raised) ≡ advance_in_place s c h
       unfolding if◌then◌else◌
-      rises-in-place r = if-rose true r
+      rises_in_place r = if-rose true r
 
       is-complete : Advances s h b → a.rose ≡ false → complete a.state (suc h) ≡ true
       is-complete i r =
@@ -63,6 +63,6 @@ module _ (s : State) (c : Counters) where
       unfolding if◌then◌else◌
       if-complete t k r = (λ j. if sym k j then out (A.Finished a.state.gvt) (closed a.state) c else out (A.Refused A.Poisoned) (poison a.state) c) ∙ if-rose false r
 
-      pub finishes-in-place : Advances s h b → a.rose ≡ false → out (A.Finished a.state.gvt) (closed a.state) c ≡ advance_in_place s c h
+      pub finishes_in_place : Advances s h b → a.rose ≡ false → out (A.Finished a.state.gvt) (closed a.state) c ≡ advance_in_place s c h
       unfolding if◌then◌else◌
-      finishes-in-place i r = if-complete true (is-complete i r) r
+      finishes_in_place i r = if-complete true (is-complete i r) r

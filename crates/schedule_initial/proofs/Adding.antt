@@ -122,12 +122,12 @@ module _ (h : Header) (m : Message) where
     queue_full k = refuses _ refl (λ E Q Z B c i. sym (row_18 (view h E Q Z B) c (message_of m) i (short l) (room true k Q)))
 
     module _ (k : t ≡ false) (u : Bool) (eu : u ≡ ltb max_count (h.next + 1)) where
-      pub queue-late : u ≡ true → QueueRefusal h m P.EventSequenceOverflow
+      pub queue_late : u ≡ true → QueueRefusal h m P.EventSequenceOverflow
       unfolding H.refused
-      queue-late x = refuses _ refl (λ E Q Z B c i. sym (row_19 (view h E Q Z B) c (message_of m) i (short l) (room false k Q) (sym eu ∙ x)))
+      queue_late x = refuses _ refl (λ E Q Z B c i. sym (row_19 (view h E Q Z B) c (message_of m) i (short l) (room false k Q) (sym eu ∙ x)))
 
-      pub queue-open : u ≡ false → QueueRefusal h m P.Accepted
-      queue-open x = passes (record { short = l; place = omega (arith, ltb-false max_pending (h.pending + 1) (sym et ∙ k)); number = omega (arith, ltb-false max_count (h.next + 1) (sym eu ∙ x)) })
+      pub queue_open : u ≡ false → QueueRefusal h m P.Accepted
+      queue_open x = passes (record { short = l; place = omega (arith, ltb-false max_pending (h.pending + 1) (sym et ∙ k)); number = omega (arith, ltb-false max_count (h.next + 1) (sym eu ∙ x)) })
 
 -- Rows 12 to 16, and then those of the queue.
 module _ (h : Header) (E : List ℕ) (m : Message) where
@@ -141,28 +141,28 @@ module _ (h : Header) (E : List ℕ) (m : Message) where
     add_closed o = refuses _ refl (λ Q Z B c f. sym (row-13 (view h E Q Z B) c (message_of m) f p o))
 
     module _ (o : h.initial ≡ true) (a : ℕ) (ea : a ≡ lp_id_of m.source) where
-      pub add-source : h.n ≤ a → InitialRefusal h E m (P.UnknownInitialSource m.source)
+      pub add_source : h.n ≤ a → InitialRefusal h E m (P.UnknownInitialSource m.source)
       unfolding H.refused
-      add-source l = refuses _ refl (λ Q Z B c f. sym (row-14 (view h E Q Z B) c (message_of m) f p o (le-leb h.n _ (omega arith))))
+      add_source l = refuses _ refl (λ Q Z B c f. sym (row-14 (view h E Q Z B) c (message_of m) f p o (le-leb h.n _ (omega arith))))
 
       module _ (l : a < h.n) (b : ℕ) (eb : b ≡ lp_id_of m.destination) where
         known : leb h.n (lp_id_of m.source) ≡ false
         known = lt-leb h.n _ (omega arith)
 
-        pub add-destination : h.n ≤ b → InitialRefusal h E m (P.UnknownInitialDestination m.destination)
+        pub add_destination : h.n ≤ b → InitialRefusal h E m (P.UnknownInitialDestination m.destination)
         unfolding H.refused
-        add-destination k = refuses _ refl (λ Q Z B c f. sym (row-15 (view h E Q Z B) c (message_of m) f p o known (le-leb h.n _ (omega arith))))
+        add_destination k = refuses _ refl (λ Q Z B c f. sym (row-15 (view h E Q Z B) c (message_of m) f p o known (le-leb h.n _ (omega arith))))
 
         module _ (k : b < h.n) (t : Bool) (et : t ≡ route (edges_of h.edges E) (lp_id_of m.source) (lp_id_of m.destination)) where
           reached : leb h.n (lp_id_of m.destination) ≡ false
           reached = lt-leb h.n _ (omega arith)
 
-          pub add-unrouted : t ≡ false → InitialRefusal h E m (P.InitialRouteMissing m.source m.destination)
+          pub add_unrouted : t ≡ false → InitialRefusal h E m (P.InitialRouteMissing m.source m.destination)
           unfolding H.refused
-          add-unrouted u = refuses _ refl (λ Q Z B c f. sym (row-16 (view h E Q Z B) c (message_of m) f p o known reached (sym et ∙ u)))
+          add_unrouted u = refuses _ refl (λ Q Z B c f. sym (row-16 (view h E Q Z B) c (message_of m) f p o known reached (sym et ∙ u)))
 
-          pub add-queued : t ≡ true → (r : Answer) → QueueRefusal h m r → InitialRefusal h E m r
-          add-queued u r d =
+          pub add_queued : t ≡ true → (r : Answer) → QueueRefusal h m r → InitialRefusal h E m r
+          add_queued u r d =
               let lets : RowsPassed h E m = λ Q Z B f. record { passes = f; healthy = p; opened = o; source = known; destination = reached; routed = sym et ∙ u } in
               record { passed = λ e. (d.passed e, lets); refused = λ n Q Z B c f. d.refused n E Q Z B c (lets Q Z B f) }
 

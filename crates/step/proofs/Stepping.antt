@@ -118,8 +118,8 @@ module _ (h : Header) (c : Counters) (E Q Z B : List ℕ) (l : ValidArrays h E Q
       idle : NothingTaken (view h E Q Z B) (ticks_of h.horizon) h.budget
       idle = record { steps = steps; none_taken = none_is _ (sym events ∙ no_events (event_at B') 0 g.batch b) }
 
-      pub step-on : (E' Z' : List ℕ) (q : CoreResult) → AdvancesOrRefuses g c E Q' Z q E' Z' → Steps h c E Q Z B q E' Q' Z' B'
-      step-on E' Z' q go =
+      pub step_on : (E' Z' : List ℕ) (q : CoreResult) → AdvancesOrRefuses g c E Q' Z q E' Z' → Steps h c E Q Z B q E' Q' Z' B'
+      step_on E' Z' q go =
           let go' : AdvancesOrRefuses (with_counts h g.pending g.batch) c E Q' Z q E' Z' = subst (λ (x : Header). AdvancesOrRefuses x c E Q' Z q E' Z') ho.head go in
           record {
             gives = go'.gives B' (subst (λ (s : State). NothingTaken s (ticks_of h.horizon) h.budget) (sym same) idle)

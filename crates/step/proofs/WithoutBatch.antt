@@ -15,7 +15,7 @@ use Rattle.rules.specs.Step.{taken_at, spent, count_advance, step_run}
 use Rattle.rules.specs.InPlace.{advanced_in_place, advance_in_place}
 use Rattle.rules.proofs.Tests.{by_bool, not_both}
 use Rattle.rules.proofs.InPlace.{in_place}
-use Rattle.rules.proofs.Outcomes.{rises-in-place, finishes-in-place}
+use Rattle.rules.proofs.Outcomes.{rises_in_place, finishes_in_place}
 use Rattle.rules.proofs.Shape.{shaped}
 use Rattle.frontiers.specs.Tables.{FirstTicks}
 use Rattle.state.specs.declared.Header.{Header}
@@ -71,10 +71,10 @@ module _ (h : Header) (c : Counters) (E Q Z F : List ℕ) (top : SimTime) (u : B
       on = sym (without_advance s (counters_of c) (ticks_of h.horizon) h.budget (spent_is B false e))
 
       up_to : r.rose ≡ true → out (A.Advanced t.gvt) t (count_advance (counters_of c) r.raised) ≡ without_batch s (counters_of c) (ticks_of h.horizon) h.budget
-      up_to up = rises-in-place s (counters_of c) (ticks_of h.horizon) h.budget _ to up ∙ on
+      up_to up = rises_in_place s (counters_of c) (ticks_of h.horizon) h.budget _ to up ∙ on
 
       finished-at : r.rose ≡ false → out (A.Finished t.gvt) (closed t) (counters_of c) ≡ without_batch s (counters_of c) (ticks_of h.horizon) h.budget
-      finished-at up = finishes-in-place s (counters_of c) (ticks_of h.horizon) h.budget _ to (record { steps = i.steps; none_taken = i.none_taken; not_spent = spent_is B false e }) up ∙ on
+      finished-at up = finishes_in_place s (counters_of c) (ticks_of h.horizon) h.budget _ to (record { steps = i.steps; none_taken = i.none_taken; not_spent = spent_is B false e }) up ∙ on
 
     goes_up : (q : CoreResult) → r.rose ≡ true → Rises r.head c r.raised q → AdvancesOrRefuses h c E Q Z q E' Z'
     goes_up q up w = rw w.after (record {

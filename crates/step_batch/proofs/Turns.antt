@@ -99,8 +99,8 @@ module _ (i : ℕ) (w processes b : List ℕ) (s : BatchScan) (m : Scannable i w
       pub place : (s.taken < 64) × (0 < s.room)
       place = let g = takes_means safe s.room s.seen (event_at w i) (is_decided ∙ y) in (omega (arith, owner i w processes b s m, m.taken), g.1)
 
-      pub scanned-taken : (e : Record) (c : List ℕ) → e ≡ record_in w (8 * i) → c ≡ put_record b (8 * s.taken) e → EventScanned i safe w b w c s (record { kept = s.kept; taken = s.taken + 1; room = s.room - 1; seen = to + 1 })
-      scanned-taken e c ee ec =
+      pub scanned_taken : (e : Record) (c : List ℕ) → e ≡ record_in w (8 * i) → c ≡ put_record b (8 * s.taken) e → EventScanned i safe w b w c s (record { kept = s.kept; taken = s.taken + 1; room = s.room - 1; seen = to + 1 })
+      scanned_taken e c ee ec =
           let l : 8 * s.taken + 8 ≤ length b = omega (arith, place.0, m.places) in
           let z : event_of e ≡ event_at w i = ap event_of ee ∙ read_back w i in
           record {

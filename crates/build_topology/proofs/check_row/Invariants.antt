@@ -4,7 +4,7 @@ use native.Mathlib.Omega.{arith}
 use lib.ListN.{length, length-set}
 use borrow.Author.Rules.{rules}
 use Rattle.types.specs.Value.{lp_id_of}
-use Rattle.build_topology.proofs.Decided.{Stamped, stamped_none, stamped_all, stamped-unknown, stamped-self, stamped-twice, stamped-nought, stamped-new}
+use Rattle.build_topology.proofs.Decided.{Stamped, stamped_none, stamped_all, stamped_unknown, stamped_self, stamped_twice, stamped_nought, stamped_new}
 use borrow.Author.Rules.{rules}
 use Rattle.build_topology.proofs.check_row.Given as goal
 

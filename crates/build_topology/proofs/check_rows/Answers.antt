@@ -3,7 +3,7 @@ use Prim.Native.Nat.{◌-◌}
 use native.Mathlib.Omega.{arith}
 use lib.ListN.{length}
 use borrow.Author.Rules.{rules}
-use Rattle.build_topology.proofs.Decided.{Turned, turned_none, turned_all, turned-ready, turned-fits, turned-unknown, turned-refused, turned-sound}
+use Rattle.build_topology.proofs.Decided.{Turned, turned_none, turned_all, turned_ready, turned_fits, turned_unknown, turned_refused, turned_sound}
 use borrow.Author.Rules.{rules}
 use Rattle.build_topology.proofs.check_rows.Goals as goal
 
@@ -11,30 +11,30 @@ pub loop-i-init : goal.loop-i-init
 loop-i-init c = search turned_none depth 1
 
 pub returns-then-n-to_word : goal.returns-then-n-to_word
-returns-then-n-to_word c = search turned-unknown depth 1
+returns-then-n-to_word c = search turned_unknown depth 1
 
 pub overflow_add-end : goal.overflow_add-end
-overflow_add-end c = omega (arith, c.requires.beside, turned-fits _ _ _ _ _ c.requires _ _ _ c.loop-i.invariant c.loop-i-test.true)
+overflow_add-end c = omega (arith, c.requires.beside, turned_fits _ _ _ _ _ c.requires _ _ _ c.loop-i.invariant c.loop-i-test.true)
 
 pub overflow_mul-high : goal.overflow_mul-high
-overflow_mul-high c = omega (arith, c.requires.beside, turned-fits _ _ _ _ _ c.requires _ _ _ c.loop-i.invariant c.loop-i-test.true)
+overflow_mul-high c = omega (arith, c.requires.beside, turned_fits _ _ _ _ _ c.requires _ _ _ c.loop-i.invariant c.loop-i-test.true)
 
 pub slice_bounds-check_row-end : goal.slice_bounds-check_row-end
-slice_bounds-check_row-end c = search turned-fits depth 1
+slice_bounds-check_row-end c = search turned_fits depth 1
 
 pub slice_bounds-check_row-end-in-loop-i : goal.slice_bounds-check_row-end-in-loop-i
-slice_bounds-check_row-end-in-loop-i c = omega (arith, c.requires.beside, turned-fits _ _ _ _ _ c.requires _ _ _ c.loop-i.invariant c.loop-i-test.true)
+slice_bounds-check_row-end-in-loop-i c = omega (arith, c.requires.beside, turned_fits _ _ _ _ _ c.requires _ _ _ c.loop-i.invariant c.loop-i-test.true)
 
 pub check_row-fault-requires : goal.check_row-fault-requires
 check_row-fault-requires c =
-    turned-ready _ _ _ _ _ c.requires _ _ _ c.loop-i.invariant c.loop-i-test.true _ refl
+    turned_ready _ _ _ _ _ c.requires _ _ _ c.loop-i.invariant c.loop-i-test.true _ refl
 
 pub loop-i-preserved : goal.loop-i-preserved
 loop-i-preserved c =
-    turned-sound _ _ _ _ _ c.requires _ _ _ c.loop-i.invariant c.loop-i-test.true _ c.to_word.ensures c.if-n-to_word.false _ refl _ _ c.check_row-fault.ensures c.enum_told-1.given.1 c.check_row-fault.auto.lookaheads.1.1.1.0
+    turned_sound _ _ _ _ _ c.requires _ _ _ c.loop-i.invariant c.loop-i-test.true _ c.to_word.ensures c.if-n-to_word.false _ refl _ _ c.check_row-fault.ensures c.enum_told-1.given.1 c.check_row-fault.auto.lookaheads.1.1.1.0
 
 pub returns-in_default : goal.returns-in_default
-returns-in_default c = search turned-refused depth 1
+returns-in_default c = search turned_refused depth 1
 
 pub returns : goal.returns
 returns c = search turned_all depth 1

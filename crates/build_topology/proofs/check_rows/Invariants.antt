@@ -3,7 +3,7 @@ use Prim.Native.Nat.{◌-◌}
 use native.Mathlib.Omega.{arith}
 use lib.ListN.{length}
 use borrow.Author.Rules.{rules}
-use Rattle.build_topology.proofs.Decided.{Turned, turned_none, turned_all, turned-ready, turned-fits, turned-unknown, turned-refused, turned-sound}
+use Rattle.build_topology.proofs.Decided.{Turned, turned_none, turned_all, turned_ready, turned_fits, turned_unknown, turned_refused, turned_sound}
 use borrow.Author.Rules.{rules}
 use Rattle.build_topology.proofs.check_rows.Given as goal
 

@@ -2,7 +2,7 @@ use Prim.Native.Nat.{◌-◌}
 use borrow.Author.Rules.{rules}
 use Rattle.rules.specs.Pending.{joins}
 use Rattle.records.specs.Records.{edge_at}
-use Rattle.records.proofs.Passes.{Seeking, seeking_start, answer_passed, answer-found, seeking_end}
+use Rattle.records.proofs.Passes.{Seeking, seeking_start, answer_passed, answer_found, seeking_end}
 use Rattle.edges.proofs.Tested.{route_self, route_along}
 use Rattle.edges.proofs.has_route.Goals as goal
 
@@ -13,7 +13,7 @@ pub loop-i-init : goal.loop-i-init
 loop-i-init c = search seeking_start depth 1
 
 pub returns-then-is_edge : goal.returns-then-is_edge
-returns-then-is_edge c = search (route_along, answer-found) depth 2
+returns-then-is_edge c = search (route_along, answer_found) depth 2
 
 pub loop-i-preserved : goal.loop-i-preserved
 loop-i-preserved c = search answer_passed depth 1

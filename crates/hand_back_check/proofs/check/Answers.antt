@@ -1,7 +1,7 @@
 use borrow.Author.Rules.{rules}
 use Rattle.types.specs.Value.{duration_of}
 use Rattle.rules.proofs.Tests.{not_true, not_false}
-use Rattle.hand_back_check.proofs.Next.{check_stopped, check_malformed, check-refused, check-behind, check-checked, in_hand_holds, judgeable}
+use Rattle.hand_back_check.proofs.Next.{check_stopped, check_malformed, check_refused, check_behind, check_checked, in_hand_holds, judgeable}
 use Rattle.hand_back_check.proofs.check.Goals as goal
 
 pub returns-then-not-a : goal.returns-then-not-a
@@ -24,7 +24,7 @@ returns-then-not-so_far c =
     let going = ill.before in
     let start = going.before.before.before.before.before in
     let g = not_false _ going.if1.false in
-    check-refused start.args.head _ _ _ _ start.args.a start.args.e g (start.requires g) _ ill.malformed-emission.ensures sound-form.if2.false _ c.to_word-emitter.ensures _ c.count_remote-remote.ensures (not_true _ c.if-not-so_far.true) _ c.checked.ensures
+    check_refused start.args.head _ _ _ _ start.args.a start.args.e g (start.requires g) _ ill.malformed-emission.ensures sound-form.if2.false _ c.to_word-emitter.ensures _ c.count_remote-remote.ensures (not_true _ c.if-not-so_far.true) _ c.checked.ensures
 
 pub returns-then-a-emitter : goal.returns-then-a-emitter
 returns-then-a-emitter c =
@@ -33,7 +33,7 @@ returns-then-a-emitter c =
     let going = ill.before in
     let start = going.before.before.before.before.before in
     let g = not_false _ going.if1.false in
-    check-behind start.args.head _ _ _ _ start.args.a start.args.e g (start.requires g) _ ill.malformed-emission.ensures sound-form.if2.false _ c.to_word-emitter.ensures _ c.count_remote-remote.ensures c.if-a-emitter.true _ c.checked-then-a-emitter.ensures
+    check_behind start.args.head _ _ _ _ start.args.a start.args.e g (start.requires g) _ ill.malformed-emission.ensures sound-form.if2.false _ c.to_word-emitter.ensures _ c.count_remote-remote.ensures c.if-a-emitter.true _ c.checked-then-a-emitter.ensures
 
 pub tick_of-time-requires : goal.tick_of-time-requires
 tick_of-time-requires c =
@@ -55,4 +55,4 @@ returns c =
     let going = ill.before in
     let start = going.before.before.before.before.before in
     let g = not_false _ going.if1.false in
-    check-checked start.args.head _ _ _ _ start.args.a start.args.e g (start.requires g) _ ill.malformed-emission.ensures sound-form.if2.false _ c.to_word-emitter.ensures _ c.count_remote-remote.ensures (not_false _ c.if-not-so_far.false) c.if-a-emitter.false c.tick_of-time.result c.tick_of-time.ensures c.check_emission-verdict.result c.check_emission-verdict.ensures _ c.checked-2.ensures
+    check_checked start.args.head _ _ _ _ start.args.a start.args.e g (start.requires g) _ ill.malformed-emission.ensures sound-form.if2.false _ c.to_word-emitter.ensures _ c.count_remote-remote.ensures (not_false _ c.if-not-so_far.false) c.if-a-emitter.false c.tick_of-time.result c.tick_of-time.ensures c.check_emission-verdict.result c.check_emission-verdict.ensures _ c.checked-2.ensures

@@ -2,14 +2,14 @@ use borrow.Author.Rules.{rules}
 use Prim.Native.Nat.{◌-◌}
 use native.Mathlib.Omega.{arith}
 use Rattle.hand_back_edges.specs.Looks.{look_in_table}
-use Rattle.hand_back_check.proofs.Checking.{Checking, checking_start, checking-asks, checking-more, checking_end}
+use Rattle.hand_back_check.proofs.Checking.{Checking, checking_start, checking_asks, checking_more, checking_end}
 use Rattle.hand_back_check.proofs.check_words.Goals as goal
 
 pub loop-i-init : goal.loop-i-init
 loop-i-init c = search checking_start depth 1
 
 pub check-a-requires : goal.check-a-requires
-check-a-requires c = search checking-asks depth 1
+check-a-requires c = search checking_asks depth 1
 
 pub overflow_add-i : goal.overflow_add-i
 overflow_add-i c =
@@ -17,7 +17,7 @@ overflow_add-i c =
 
 pub loop-i-preserved : goal.loop-i-preserved
 loop-i-preserved c =
-    checking-more c.args.head _ _ _ _ c.args.start _ c.requires.0 _ _ _ c.loop-i.invariant c.loop-i-test.true c.emission_in-e.result c.emission_in-e.ensures c.lookahead_of-lookahead.result c.lookahead_of-lookahead.ensures c.check-a.result c.check-a.ensures
+    checking_more c.args.head _ _ _ _ c.args.start _ c.requires.0 _ _ _ c.loop-i.invariant c.loop-i-test.true c.emission_in-e.result c.emission_in-e.ensures c.lookahead_of-lookahead.result c.lookahead_of-lookahead.ensures c.check-a.result c.check-a.ensures
 
 pub returns : goal.returns
 returns c = search checking_end depth 1

@@ -1,5 +1,5 @@
 use borrow.Author.Rules.{rules}
-use Rattle.hand_back_commit.proofs.Ending.{refusal_27, refusal_19, refusal-18, refusal-none}
+use Rattle.hand_back_commit.proofs.Ending.{refusal_27, refusal_19, refusal_18, refusal_none}
 use Rattle.hand_back_commit.proofs.refusal.Goals as goal
 
 pub returns-then-failed-lt-MAX_PROCESSES : goal.returns-then-failed-lt-MAX_PROCESSES
@@ -9,7 +9,7 @@ pub returns-then-sequence_exhausted : goal.returns-then-sequence_exhausted
 returns-then-sequence_exhausted c = search refusal_19 depth 1
 
 pub returns-then-is_queue_full : goal.returns-then-is_queue_full
-returns-then-is_queue_full c = search refusal-18 depth 1
+returns-then-is_queue_full c = search refusal_18 depth 1
 
 pub returns : goal.returns
-returns c = search refusal-none depth 1
+returns c = search refusal_none depth 1

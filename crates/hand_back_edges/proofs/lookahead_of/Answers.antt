@@ -1,7 +1,7 @@
 use mathlib.Core.Logic.{⊎_elim}
 use borrow.Author.Rules.{rules}
 use borrow.Author.Tests.{leb-true, leb-false}
-use Rattle.hand_back_edges.proofs.Finding.{told_past, told_beyond, told_unplaced, row_there, told_none, edge_there, told-edge}
+use Rattle.hand_back_edges.proofs.Finding.{told_past, told_beyond, told_unplaced, row_there, told_none, edge_there, told_edge}
 use Rattle.hand_back_edges.proofs.lookahead_of.Goals as goal
 
 pub returns-then-from-ge-MAX_PROCESSES : goal.returns-then-from-ge-MAX_PROCESSES
@@ -28,4 +28,4 @@ lookahead_at-requires c =
 
 pub returns : goal.returns
 returns c =
-    told-edge _ _ _ c.requires c.args.e _ c.to_word-from.ensures _ c.to_word-to.ensures c.if-row-eq0.false (leb-false 64 _ c.if-to-ge-MAX_PROCESSES.false-raw) _ c.entry_in-entry.ensures c.if-entry-eq0.false _ c.lookahead_at.ensures
+    told_edge _ _ _ c.requires c.args.e _ c.to_word-from.ensures _ c.to_word-to.ensures c.if-row-eq0.false (leb-false 64 _ c.if-to-ge-MAX_PROCESSES.false-raw) _ c.entry_in-entry.ensures c.if-entry-eq0.false _ c.lookahead_at.ensures

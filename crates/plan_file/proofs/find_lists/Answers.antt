@@ -4,7 +4,7 @@ use native.Mathlib.Omega.{arith}
 use Rattle.bits.specs.Bytes.{stream}
 use Rattle.bits.proofs.Streams.{length_stream}
 use Rattle.plan_file.specs.Grammar.{edge, message, reply}
-use Rattle.plan_file.proofs.Placing.{listed, cut, plan_short, edges_cut, initial-cut, replies-cut, whole}
+use Rattle.plan_file.proofs.Placing.{listed, cut, plan_short, edges_cut, initial_cut, replies_cut, whole}
 use borrow.Author.Rules.{rules}
 use Rattle.plan_file.proofs.find_lists.Statement.{statement}
 use Rattle.plan_file.proofs.find_lists.Tie as tie
@@ -29,7 +29,7 @@ pub returns-in_default-message_list : goal.returns-in_default-message_list
 returns-in_default-message_list c =
     let b = stream c.args.s.now in
     let es = listed edge b 327 _ c.edge_list.ensures _ _ _ c.edges-1.given.1 in
-    initial-cut b (rw length_stream c.if-s-lt327.false) es (cut message b _ _ c.message_list.ensures c.enum_told-in_default-message_list-1.given.1)
+    initial_cut b (rw length_stream c.if-s-lt327.false) es (cut message b _ _ c.message_list.ensures c.enum_told-in_default-message_list-1.given.1)
 
 pub reply_list-requires : goal.reply_list-requires
 reply_list-requires c =
@@ -42,7 +42,7 @@ returns-in_default-reply_list c =
     let b = stream c.args.s.now in
     let es = listed edge b 327 _ c.edge_list.ensures _ _ _ c.edges-1.given.1 in
     let is = listed message b _ _ c.message_list.ensures _ _ _ c.initial-1.given.1 in
-    replies-cut b (rw length_stream c.if-s-lt327.false) es is (cut reply b _ _ c.reply_list.ensures c.enum_told-in_default-reply_list-1.given.1)
+    replies_cut b (rw length_stream c.if-s-lt327.false) es is (cut reply b _ _ c.reply_list.ensures c.enum_told-in_default-reply_list-1.given.1)
 
 pub returns : goal.returns
 returns c =

@@ -5,7 +5,7 @@ use mathlib.Core.Path.{refl}
 use Rattle.bits.specs.Bytes.{stream}
 use Rattle.bits.proofs.Streams.{length_stream}
 use Rattle.plan_file.specs.Grammar.{reply}
-use Rattle.plan_file.proofs.Steps.{list_short, list-cut, list_on}
+use Rattle.plan_file.proofs.Steps.{list_short, list_cut, list_on}
 use borrow.Author.Rules.{rules}
 use Rattle.plan_file.proofs.reply_list.Statement.{statement}
 use Rattle.plan_file.proofs.reply_list.Tie as tie
@@ -18,7 +18,7 @@ returns-then-s-at-lt10 c =
 pub returns-in_default : goal.returns-in_default
 returns-in_default c =
     let a = c.args in
-    list-cut reply (stream a.s.now) a.at (rw length_stream (omega arith)) (rw length_stream (omega arith)) _ c.read-n.ensures (refl) c.skip_replies.ensures c.enum_told-1.given.1
+    list_cut reply (stream a.s.now) a.at (rw length_stream (omega arith)) (rw length_stream (omega arith)) _ c.read-n.ensures (refl) c.skip_replies.ensures c.enum_told-1.given.1
 
 pub returns : goal.returns
 returns c =

@@ -10,7 +10,7 @@ use Rattle.bits.proofs.Streams.{length_stream}
 use Rattle.plan_file.specs.Format.{gets}
 use Rattle.plan_file.specs.Walked.{rest}
 use Rattle.plan_file.specs.Grammar.{reply}
-use Rattle.plan_file.proofs.Steps.{walk_in, many-short, many-on, many_end}
+use Rattle.plan_file.proofs.Steps.{walk_in, many_short, many_on, many_end}
 use Rattle.plan_file.proofs.skip_replies.Statement.{statement}
 use Rattle.plan_file.proofs.skip_replies.Tie as tie
 
@@ -20,14 +20,14 @@ loop-left-init c = (omega arith, refl)
 pub returns-in_default : goal.returns-in_default
 returns-in_default c =
     let l = c.loop-left in
-    many-short reply _ _ l.left l.p l.invariant.1 (omega arith) c.skip_reply.ensures c.enum_told-1.given.1
+    many_short reply _ _ l.left l.p l.invariant.1 (omega arith) c.skip_reply.ensures c.enum_told-1.given.1
 
 pub loop-left-preserved : goal.loop-left-preserved
 loop-left-preserved c =
     let l = c.loop-left in
     let w = c.skip_reply.ensures in
     let q = c.q-1.given in
-    (rw length_stream at (walk_in w _ q.1), many-on reply _ _ l.left l.p l.invariant.1 (omega arith) w _ q.1)
+    (rw length_stream at (walk_in w _ q.1), many_on reply _ _ l.left l.p l.invariant.1 (omega arith) w _ q.1)
 
 pub returns : goal.returns
 returns c =

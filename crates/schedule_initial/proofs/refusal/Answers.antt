@@ -1,6 +1,6 @@
 use borrow.Author.Rules.{rules}
 use Rattle.rules.proofs.Tests.{not_true, not_false}
-use Rattle.schedule_initial.proofs.Adding.{add_poisoned, add_closed, add-source, add-destination, add-unrouted, add-queued}
+use Rattle.schedule_initial.proofs.Adding.{add_poisoned, add_closed, add_source, add_destination, add_unrouted, add_queued}
 use Rattle.schedule_initial.proofs.refusal.Goals as goal
 
 pub returns-then-head : goal.returns-then-head
@@ -12,16 +12,16 @@ returns-then-not-head c =
 
 pub returns-then-n-to_word : goal.returns-then-n-to_word
 returns-then-n-to_word c =
-    add-source _ _ _ c.if-head.false (not_false _ c.if-not-head.false) _ c.to_word.ensures c.if-n-to_word.true
+    add_source _ _ _ c.if-head.false (not_false _ c.if-not-head.false) _ c.to_word.ensures c.if-n-to_word.true
 
 pub returns-then-n-to_word-2 : goal.returns-then-n-to_word-2
 returns-then-n-to_word-2 c =
-    add-destination _ _ _ c.if-head.false (not_false _ c.if-not-head.false) _ c.to_word.ensures c.if-n-to_word.false _ c.to_word-2.ensures c.if-n-to_word-2.true
+    add_destination _ _ _ c.if-head.false (not_false _ c.if-not-head.false) _ c.to_word.ensures c.if-n-to_word.false _ c.to_word-2.ensures c.if-n-to_word-2.true
 
 pub returns-then-not-has_route : goal.returns-then-not-has_route
 returns-then-not-has_route c =
-    add-unrouted _ _ _ c.if-head.false (not_false _ c.if-not-head.false) _ c.to_word.ensures c.if-n-to_word.false _ c.to_word-2.ensures c.if-n-to_word-2.false _ c.has_route.ensures (not_true _ c.if-not-has_route.true-raw)
+    add_unrouted _ _ _ c.if-head.false (not_false _ c.if-not-head.false) _ c.to_word.ensures c.if-n-to_word.false _ c.to_word-2.ensures c.if-n-to_word-2.false _ c.has_route.ensures (not_true _ c.if-not-has_route.true-raw)
 
 pub returns : goal.returns
 returns c =
-    add-queued _ _ _ c.if-head.false (not_false _ c.if-not-head.false) _ c.to_word.ensures c.if-n-to_word.false _ c.to_word-2.ensures c.if-n-to_word-2.false _ c.has_route.ensures (not_false _ c.if-not-has_route.false-raw) _ c.queue_refusal.ensures
+    add_queued _ _ _ c.if-head.false (not_false _ c.if-not-head.false) _ c.to_word.ensures c.if-n-to_word.false _ c.to_word-2.ensures c.if-n-to_word-2.false _ c.has_route.ensures (not_false _ c.if-not-has_route.false-raw) _ c.queue_refusal.ensures

@@ -1,6 +1,6 @@
 use borrow.Author.Rules.{rules}
 use Rattle.rules.proofs.Tests.{not_true, not_false}
-use Rattle.step.proofs.Stepping.{step_batch, step-on, takeable, advanceable}
+use Rattle.step.proofs.Stepping.{step_batch, step_on, takeable, advanceable}
 use Rattle.step.proofs.step.Goals as goal
 
 pub refused-requires : goal.refused-requires
@@ -24,4 +24,4 @@ advance_or_refuse-requires c =
 
 pub returns : goal.returns
 returns c =
-    step-on c.args.head c.args.counters _ _ _ _ c.requires (c.can_step.ensures.yes_step (not_false _ c.if-not-can_step.false-raw)) _ _ _ c.hand_out-h.ensures c.if-h-gt0.false _ _ c.advance_or_refuse.result c.advance_or_refuse.ensures
+    step_on c.args.head c.args.counters _ _ _ _ c.requires (c.can_step.ensures.yes_step (not_false _ c.if-not-can_step.false-raw)) _ _ _ c.hand_out-h.ensures c.if-h-gt0.false _ _ c.advance_or_refuse.result c.advance_or_refuse.ensures

@@ -1,6 +1,6 @@
 use native.Mathlib.Omega.{arith}
 use borrow.Author.Rules.{rules}
-use Rattle.step_batch.proofs.Turns.{owner, place, scanned_seen, scanned_kept, scanned-taken}
+use Rattle.step_batch.proofs.Turns.{owner, place, scanned_seen, scanned_kept, scanned_taken}
 use Rattle.step_batch.proofs.scan_event.Goals as goal
 
 pub returns-then-to-s : goal.returns-then-to-s
@@ -38,7 +38,7 @@ overflow_add-result-then-is_taken-2 c =
 
 pub returns-then-is_taken : goal.returns-then-is_taken
 returns-then-is_taken c =
-    scanned-taken _ _ _ _ c.args.s c.requires _ _ _ c.if-to-s.false c.tick_in-t.ensures c.is_taken.ensures c.if-is_taken.true _ _ c.record_in-e.ensures c.put_record.ensures
+    scanned_taken _ _ _ _ c.args.s c.requires _ _ _ c.if-to-s.false c.tick_in-t.ensures c.is_taken.ensures c.if-is_taken.true _ _ c.record_in-e.ensures c.put_record.ensures
 
 pub overflow_add-result-3 : goal.overflow_add-result-3
 overflow_add-result-3 c =
