@@ -1,13 +1,11 @@
 -- What each return of begin gives.
 use mathlib.Core.Path.{◌≡◌, refl, sym, ap, subst, ◌∙◌}
-use mathlib.Core.Bool.{Bool, true, false, not, true≢false}
+use mathlib.Core.Bool.{Bool, true, false, not}
 use mathlib.Core.List.{List, []}
 use Prim.Native.Nat.{ℕ}
 use native.Mathlib.Omega.{arith}
 use lib.Dec.{leb, ltb}
 use borrow.Author.Tests.{ltb-true, ltb-false, le-leb, lt-leb}
-use types.Run.{OneOf}
-use denote.Enum.Declared.{tag_of}
 use Rattle.types.specs.declared.SimTime.{SimTime}
 use Rattle.types.specs.Value.{ticks_of}
 use Rattle.rules.specs.Base.{if◌then◌else◌}
@@ -23,8 +21,7 @@ use Rattle.state.specs.declared.Answer.{Answer}
 use Rattle.state.specs.declared.Answer.TheVariants as P
 use Rattle.state.specs.View.{view, stored_of, answer_of}
 use Rattle.state.specs.Headers.{running_header}
-use Rattle.state.specs.contracts.Answer.{the_type}
-use Rattle.state.proofs.Deciding.{others, passes, refuses, decided}
+use Rattle.state.proofs.Deciding.{passes, refuses}
 use Rattle.state.proofs.Moves.{accepted_moves}
 use Rattle.begin_run.specs.Begins.{Begins, BeginRefusal}
 
@@ -105,5 +102,5 @@ module _ (h : Header) (t : SimTime) (b : ℕ) (a : Answer) (d : BeginRefusal h t
   pub running : a ≡ P.Accepted → (k : Header) → k ≡ running_header h t b → Begins h t b (record { answer = a; head = k })
   running e k g = subst (λ (k : Header). Begins h t b (record { answer = a; head = k })) (sym g) (d.passed e b)
 
-  pub as_given_holds : OneOf others (tag_of the_type a) → Begins h t b (record { answer = a; head = h })
-  as_given_holds w = decided a d w b
+  pub as_given_holds : (a ≡ P.Accepted → ⊥) → Begins h t b (record { answer = a; head = h })
+  as_given_holds w = d.refused w b

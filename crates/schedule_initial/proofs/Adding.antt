@@ -6,8 +6,6 @@ use Prim.Native.Nat.{ℕ, suc, ◌+◌, ◌≤◌, ◌<◌}
 use native.Mathlib.Omega.{arith}
 use lib.Dec.{leb, ltb}
 use lib.ListN.{length}
-use types.Run.{OneOf}
-use denote.Enum.Declared.{tag_of}
 use borrow.Author.Tests.{ltb-false, leb-true, leb-false, lt-ltb, le-ltb, le-leb, lt-leb}
 use Rattle.types.specs.Value.{lp_id_of}
 use Rattle.words.proofs.Tab.{length_tab}
@@ -31,8 +29,7 @@ use Rattle.state.specs.declared.Answer.{Answer}
 use Rattle.state.specs.declared.Answer.TheVariants as P
 use Rattle.state.specs.View.{view, message_of}
 use Rattle.state.specs.Headers.{enqueued_header}
-use Rattle.state.specs.contracts.Answer.{the_type}
-use Rattle.state.proofs.Deciding.{others, passes, refuses, decided}
+use Rattle.state.proofs.Deciding.{passes, refuses}
 use Rattle.state.proofs.Moves.{accepted_moves}
 use Rattle.schedule_initial.specs.AddsInitial.{record_of, CanEnqueue, InitialAllowed, RowsPassed, QueueRefusal, InitialRefusal, Enqueues, AddsInitial}
 
@@ -180,5 +177,5 @@ module _ (h : Header) (E Q : List ℕ) (m : Message) (a : Answer) (d : InitialRe
     kept = λ es y. accepted_moves y;
   })
 
-  pub as_given_holds : OneOf others (tag_of the_type a) → AddsInitial h E Q m (record { answer = a; head = h }) Q
-  as_given_holds w = record { gives = λ Z B c f. decided a d w Q Z B c f; kept = λ es y. (refl, refl) }
+  pub as_given_holds : (a ≡ P.Accepted → ⊥) → AddsInitial h E Q m (record { answer = a; head = h }) Q
+  as_given_holds w = record { gives = λ Z B c f. d.refused w Q Z B c f; kept = λ es y. (refl, refl) }

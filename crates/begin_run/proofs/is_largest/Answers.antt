@@ -1,4 +1,3 @@
-use borrow.Author.Rules.{rules}
 use Rattle.begin_run.proofs.Beginning.{at_top}
 use Rattle.begin_run.proofs.is_largest.Goals as goal
 

@@ -1,4 +1,3 @@
-use borrow.Author.Rules.{rules}
 use Rattle.begin_run.proofs.Beginning.{last_stored, last_unset}
 use Rattle.begin_run.proofs.last_horizon.Goals as goal
 

@@ -1,4 +1,3 @@
-use borrow.Author.Rules.{rules}
 use Rattle.begin_run.proofs.Beginning.{poisoned, run_open, regression, overflow, begun}
 use Rattle.begin_run.proofs.refusal.Goals as goal
 

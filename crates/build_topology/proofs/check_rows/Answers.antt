@@ -31,7 +31,7 @@ check_row-fault-requires c =
 
 pub loop-i-preserved : goal.loop-i-preserved
 loop-i-preserved c =
-    turned_sound _ _ _ _ _ c.requires _ _ _ c.loop-i.invariant c.loop-i-test.true _ c.to_word.ensures c.if-n-to_word.false _ refl _ _ c.check_row-fault.ensures c.enum_told-1.given.1 c.check_row-fault.auto.lookaheads.1.1.1.0
+    turned_sound _ _ _ _ _ c.requires _ _ _ c.loop-i.invariant c.loop-i-test.true _ c.to_word.ensures c.if-n-to_word.false _ refl _ _ c.check_row-fault.ensures c.in-Valid.is c.check_row-fault.auto.lookaheads.1.1.1.0
 
 pub returns-in_default : goal.returns-in_default
 returns-in_default c = search turned_refused depth 1

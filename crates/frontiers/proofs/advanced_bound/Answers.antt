@@ -1,13 +1,12 @@
-use borrow.Author.Rules.{rules}
 use Rattle.frontiers.proofs.Capped.{capped_sum, capped_over}
 use Rattle.frontiers.proofs.advanced_bound.Goals as goal
 
 pub returns-in-Sum : goal.returns-in-Sum
 returns-in-Sum c =
     let k = c.checked_add-sum in
-    capped_sum k.result _ _ _ _ _ k.ensures c.sum-1.given.1 c.min.ensures
+    capped_sum k.result _ _ _ _ _ k.ensures c.in-Sum.is c.min.ensures
 
 pub returns-in-Overflow : goal.returns-in-Overflow
 returns-in-Overflow c =
     let k = c.checked_add-sum in
-    capped_over k.result _ _ _ k.ensures c.enum_told-1.given.1
+    capped_over k.result _ _ _ k.ensures c.in-Overflow.is

@@ -1,7 +1,5 @@
 use borrow.Author.Rules.{rules}
-use mathlib.Core.Path.{◌≡◌}
-use lib.ListN.{length}
-use Rattle.frontiers.proofs.Tables.{Noting, noting_start, noting_more, noting_end}
+use Rattle.frontiers.proofs.Tables.{noting_start, noting_more, noting_end}
 use Rattle.frontiers.proofs.first_ticks.Goals as goal
 
 pub loop-i-init : goal.loop-i-init

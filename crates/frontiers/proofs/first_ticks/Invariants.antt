@@ -1,7 +1,6 @@
-use borrow.Author.Rules.{rules}
 use mathlib.Core.Path.{◌≡◌}
 use lib.ListN.{length}
-use Rattle.frontiers.proofs.Tables.{Noting, noting_start, noting_more, noting_end}
+use Rattle.frontiers.proofs.Tables.{Noting}
 use Rattle.frontiers.proofs.first_ticks.Given as goal
 
 abbrev pub invariant-loop-i : goal.invariant-loop-i

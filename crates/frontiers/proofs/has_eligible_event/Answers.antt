@@ -1,8 +1,5 @@
-use borrow.Author.Rules.{rules}
-use Prim.Native.Nat.{◌-◌}
-use Rattle.types.specs.Value.{ticks_of}
-use Rattle.records.proofs.Passes.{Seeking, seeking_start}
-use Rattle.frontiers.proofs.Early.{early, late_passed, early_found, none_early}
+use Rattle.records.proofs.Passes.{seeking_start}
+use Rattle.frontiers.proofs.Early.{late_passed, early_found, none_early}
 use Rattle.frontiers.proofs.has_eligible_event.Goals as goal
 
 pub loop-p-init : goal.loop-p-init

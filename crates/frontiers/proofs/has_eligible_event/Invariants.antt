@@ -1,8 +1,7 @@
-use borrow.Author.Rules.{rules}
 use Prim.Native.Nat.{◌-◌}
 use Rattle.types.specs.Value.{ticks_of}
-use Rattle.records.proofs.Passes.{Seeking, seeking_start}
-use Rattle.frontiers.proofs.Early.{early, late_passed, early_found, none_early}
+use Rattle.records.proofs.Passes.{Seeking}
+use Rattle.frontiers.proofs.Early.{early}
 use Rattle.frontiers.proofs.has_eligible_event.Given as goal
 
 abbrev pub invariant-loop-p : goal.invariant-loop-p

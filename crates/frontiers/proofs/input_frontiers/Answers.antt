@@ -1,8 +1,5 @@
 use borrow.Author.Rules.{rules}
-use mathlib.Core.Path.{◌≡◌}
-use lib.ListN.{length}
-use Rattle.types.specs.Value.{ticks_of}
-use Rattle.frontiers.proofs.ReadingFrontiers.{Reading, reading_start, reading_more, reading_end}
+use Rattle.frontiers.proofs.ReadingFrontiers.{reading_start, reading_more, reading_end}
 use Rattle.frontiers.proofs.input_frontiers.Goals as goal
 
 pub loop-p-init : goal.loop-p-init

@@ -1,8 +1,7 @@
-use borrow.Author.Rules.{rules}
 use mathlib.Core.Path.{◌≡◌}
 use lib.ListN.{length}
 use Rattle.types.specs.Value.{ticks_of}
-use Rattle.frontiers.proofs.ReadingFrontiers.{Reading, reading_start, reading_more, reading_end}
+use Rattle.frontiers.proofs.ReadingFrontiers.{Reading}
 use Rattle.frontiers.proofs.input_frontiers.Given as goal
 
 abbrev pub invariant-loop-p : goal.invariant-loop-p

@@ -1,4 +1,3 @@
-use borrow.Author.Rules.{rules}
 use Rattle.frontiers.proofs.RaisingBounds.{edge_rises, edge_stays}
 use Rattle.frontiers.proofs.raise_bound.Goals as goal
 

@@ -1,9 +1,6 @@
 use borrow.Author.Rules.{rules}
 use native.Mathlib.Omega.{arith}
-use mathlib.Core.Path.{◌≡◌}
-use lib.ListN.{length}
-use Rattle.types.specs.Value.{ticks_of}
-use Rattle.frontiers.proofs.RaisingBounds.{Raising, raising_start, raising_more, raising_end, source_of, destination_of, edge_most}
+use Rattle.frontiers.proofs.RaisingBounds.{raising_start, raising_more, raising_end, source_of, destination_of, edge_most}
 use Rattle.frontiers.proofs.raise_bounds.Goals as goal
 
 pub loop-i-init : goal.loop-i-init

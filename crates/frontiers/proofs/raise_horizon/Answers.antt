@@ -1,13 +1,6 @@
-use borrow.Author.Rules.{rules}
 use Rattle.frontiers.proofs.RaisingHorizons.{horizon_rises}
 use Rattle.frontiers.proofs.raise_horizon.Goals as goal
 
 pub returns : goal.returns
 returns c =
-    let now-at = c in
-    let up = now-at.before.before.before.before in
-    let to = up.before in
-    let tick = to.before.before in
-    let front = tick.before in
-    let start = front.before.before.before.before in
-    horizon_rises _ _ _ _ _ start.args.found _ _ _ _ _ _ _ _ start.requires.0 start.requires.1 front.frontier.ensures tick.tick-in.ensures to.min.ensures up.raise-tick.ensures now-at.tick-in2.ensures c.min-2.ensures c.min-3.ensures c.either.ensures
+    horizon_rises _ _ _ _ _ c.args.found _ _ _ _ _ _ _ _ c.requires.0 c.requires.1 c.frontier-front.ensures c.tick_in-tick.ensures c.min.ensures c.raise_tick-rose.ensures c.tick_in-horizon.ensures c.min-2.ensures c.min-3.ensures c.either.ensures

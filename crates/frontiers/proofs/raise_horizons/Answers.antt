@@ -1,8 +1,5 @@
 use borrow.Author.Rules.{rules}
-use mathlib.Core.Path.{◌≡◌}
-use lib.ListN.{length}
-use Rattle.types.specs.Value.{ticks_of}
-use Rattle.frontiers.proofs.RaisingHorizons.{Rising, rising_start, rising_more, rising_end}
+use Rattle.frontiers.proofs.RaisingHorizons.{rising_start, rising_more, rising_end}
 use Rattle.frontiers.proofs.raise_horizons.Goals as goal
 
 pub loop-left-init : goal.loop-left-init

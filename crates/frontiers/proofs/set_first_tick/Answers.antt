@@ -1,4 +1,3 @@
-use borrow.Author.Rules.{rules}
 use Rattle.frontiers.proofs.Tables.{note_yes, note_no}
 use Rattle.frontiers.proofs.set_first_tick.Goals as goal
 

@@ -1,4 +1,3 @@
-use borrow.Author.Rules.{rules}
 use Rattle.frontiers.proofs.RaisingBounds.{found_before, found_anew}
 use Rattle.frontiers.proofs.source_bound.Goals as goal
 

@@ -7,10 +7,7 @@ use Rattle.hand_back_edges.proofs.lookahead_in.Goals as goal
 
 pub returns-then-from-ge-MAX_PROCESSES : goal.returns-then-from-ge-MAX_PROCESSES
 returns-then-from-ge-MAX_PROCESSES c =
-    ⊎_elim
-    (λ w. told_past _ c.requires c.args.e _ c.to_word-from.ensures _ c.to_word-to.ensures w.taken _ c.zero.ensures)
-    (λ w. told_beyond _ c.requires c.args.e _ c.to_word-from.ensures _ c.to_word-to.ensures (leb-true 64 _ w.1.taken) _ c.zero.ensures)
-    c.if-from-ge-MAX_PROCESSES.branch
+    elim ? [ then-from-ge-MAX_PROCESSES w ↦ told_past _ c.requires c.args.e _ c.to_word-from.ensures _ c.to_word-to.ensures w.taken _ c.zero.ensures | else-from-ge-MAX_PROCESSES w ↦ told_beyond _ c.requires c.args.e _ c.to_word-from.ensures _ c.to_word-to.ensures (leb-true 64 _ w.1.taken) _ c.zero.ensures ]
 
 pub bounds-table-at : goal.bounds-table-at
 bounds-table-at c = omega (arith, leb-false 64 c.to_word-to.result c.if-to-ge-MAX_PROCESSES.false-raw)

@@ -6,10 +6,7 @@ use Rattle.hand_back_edges.proofs.lookahead_of.Goals as goal
 
 pub returns-then-from-ge-MAX_PROCESSES : goal.returns-then-from-ge-MAX_PROCESSES
 returns-then-from-ge-MAX_PROCESSES c =
-    ⊎_elim
-    (λ w. told_past _ _ _ c.requires c.args.e _ c.to_word-from.ensures _ c.to_word-to.ensures w.taken _ c.zero.ensures)
-    (λ w. told_beyond _ _ _ c.requires c.args.e _ c.to_word-from.ensures _ c.to_word-to.ensures (leb-true 64 _ w.1.taken) _ c.zero.ensures)
-    c.if-from-ge-MAX_PROCESSES.branch
+    elim ? [ then-from-ge-MAX_PROCESSES w ↦ told_past _ _ _ c.requires c.args.e _ c.to_word-from.ensures _ c.to_word-to.ensures w.taken _ c.zero.ensures | else-from-ge-MAX_PROCESSES w ↦ told_beyond _ _ _ c.requires c.args.e _ c.to_word-from.ensures _ c.to_word-to.ensures (leb-true 64 _ w.1.taken) _ c.zero.ensures ]
 
 pub returns-then-row-eq0 : goal.returns-then-row-eq0
 returns-then-row-eq0 c = search told_unplaced depth 1

@@ -1,4 +1,3 @@
-use borrow.Author.Rules.{rules}
 use Rattle.schedule_initial.proofs.Adding.{led}
 use Rattle.schedule_initial.proofs.has_route.Goals as goal
 

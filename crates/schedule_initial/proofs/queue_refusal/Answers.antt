@@ -1,4 +1,3 @@
-use borrow.Author.Rules.{rules}
 use Rattle.schedule_initial.proofs.Adding.{queue_long, queue_full, queue_late, queue_open}
 use Rattle.schedule_initial.proofs.queue_refusal.Goals as goal
 

@@ -1,4 +1,3 @@
-use borrow.Author.Rules.{rules}
 use Rattle.schedule_initial.proofs.Adding.{record_is}
 use Rattle.schedule_initial.proofs.record_of.Goals as goal
 

@@ -1,4 +1,3 @@
-use borrow.Author.Rules.{rules}
 use Rattle.rules.proofs.Tests.{not_true, not_false}
 use Rattle.schedule_initial.proofs.Adding.{add_poisoned, add_closed, add_source, add_destination, add_unrouted, add_queued}
 use Rattle.schedule_initial.proofs.refusal.Goals as goal
