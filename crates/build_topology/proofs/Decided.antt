@@ -8,8 +8,6 @@ use native.Mathlib.Omega.{arith}
 use lib.Dec.{eqb}
 use lib.ListN.{length, get_or, take, drop, set, replicate, length-set, drop_of_length-le}
 use lib.Seq.{drop-cons, drop-drop, get_or-set_same, get_or-set_other}
-use types.Run.{OneOf, miss}
-use denote.Enum.Declared.{tag_of}
 use borrow.Author.Tests.{le-leb, lt-leb, eqb-true, eqb-false, eq-eqb, ne_eqb}
 use Rattle.rules.specs.Base.{if◌then◌else◌, Maybe, none, some, any, member, sum}
 use Rattle.rules.specs.Answers.{Refusal, UnknownTopologySource, UnknownTopologyDestination, SelfLoop, DuplicateNeighbor, InvalidEdgeLookahead}
@@ -24,7 +22,6 @@ use Rattle.build_topology.specs.declared.TopologyCheck.{TopologyCheck}
 use Rattle.build_topology.specs.declared.TopologyCheck.TheVariants as fault
 use Rattle.build_topology.specs.Lookaheads.{targets_for}
 use Rattle.build_topology.specs.Checks.{first_refusal, refusal_of, Unmarked, CheckedRow, RowsPassed}
-use Rattle.build_topology.specs.contracts.TopologyCheck.{the_type}
 use Rattle.build_topology.proofs.Beside.{targets_part, part_beside, target_at, targets_at}
 
 -- Two tables one behind the other: the first decides, else the second.
@@ -38,11 +35,8 @@ decided_append [] ts = refl
 decided_append (r ∷ rs) ts = by_bool r.test (λ e. rw e) (λ e. rw e (decided_append rs ts))
 
 -- A check that is not Valid refuses, whatever comes behind it.
-abbrev refusing : List ℕ
-refusing = 1 ∷ 2 ∷ 3 ∷ 4 ∷ 5 ∷ []
-
-refused_first : (m : Maybe Refusal) (r : TopologyCheck) → OneOf refusing (tag_of the_type r) → or_else (refusal_of r) m ≡ refusal_of r
-refused_first m fault.Valid w = absurd (miss refusing 0 tt w)
+refused_first : (m : Maybe Refusal) (r : TopologyCheck) → (r ≡ fault.Valid → ⊥) → or_else (refusal_of r) m ≡ refusal_of r
+refused_first m fault.Valid w = absurd (w refl)
 refused_first m (fault.UnknownTopologySource p) w = refl
 refused_first m (fault.UnknownTopologyDestination p d) w = refl
 refused_first m (fault.SelfLoop p) w = refl
@@ -226,7 +220,7 @@ module _ (n : ℕ) (sources counts ds ws : List ℕ) where
               let d : drop (get_or counts i 0) (drop at (targets_for ds ws)) ≡ drop end (targets_for ds ws) = drop-drop (get_or counts i 0) at (targets_for ds ws) ∙ rw (← f) in
               rw (j.answer, ← targets_part ds ws s.beside at end (omega arith), g, ← d) (opened-row ∙ row_else n _ _ _ _ _ (rw e at a))
 
-          pub turned_refused : OneOf refusing (tag_of the_type r) → refusal_of r ≡ all_decided
+          pub turned_refused : (r ≡ fault.Valid → ⊥) → refusal_of r ≡ all_decided
           turned_refused w = sym (turned-else ∙ refused_first _ r w)
 
           pub turned_sound : r ≡ fault.Valid → length after ≡ length marks → Turned n sources counts ds ws after end (i + 1)

@@ -9,7 +9,7 @@ use native.Mathlib.Numerals.{add-one}
 use lib.Dec.{eqb}
 use lib.ListN.{length, get_or, set}
 use lib.Seq.{get_or-set_same, get_or-set_other}
-use borrow.Author.Tests.{lt-ltb, le-ltb, eq-eqb, ne_eqb, eqb-true, ltb-true}
+use borrow.Author.Tests.{lt-ltb, eq-eqb, ne_eqb, eqb-true, ltb-true}
 use Rattle.types.specs.declared.SimDuration.{SimDuration}
 use Rattle.types.specs.Value.{halves, duration_of, lp_id_of}
 use Rattle.types.proofs.Halves.{lt_or_ge}
@@ -17,7 +17,7 @@ use Rattle.words.specs.Words.{tab, tick_at}
 use Rattle.words.proofs.Tab.{tab_step, tab_none, tab_whole}
 use Rattle.records.specs.Records.{edge_at, edges_of}
 use Rattle.rules.specs.Base.{if◌then◌else◌}
-use Rattle.rules.specs.Pending.{joins, lookahead_along}
+use Rattle.rules.specs.Pending.{lookahead_along}
 use Rattle.rules.proofs.Tests.{by_test, by_bool, and_left, and_right, and_both, not_both}
 use Rattle.reply_words.specs.declared.Emission.{Emission}
 use Rattle.reply_words.proofs.Table.{past_end}

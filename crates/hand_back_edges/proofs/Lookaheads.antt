@@ -1,5 +1,5 @@
 -- The table of lookaheads: of no edges, one edge more, and what is read off it.
-use mathlib.Core.Path.{◌≡◌, refl, sym, ap, ◌∙◌}
+use mathlib.Core.Path.{◌≡◌, refl, sym, ◌∙◌}
 use mathlib.Core.Logic.{⊎_elim}
 use mathlib.Core.Bool.{false, ◌&&◌}
 use mathlib.Core.List.{List, []}
@@ -13,10 +13,10 @@ use Rattle.types.specs.declared.SimDuration.{SimDuration}
 use Rattle.types.specs.Value.{halves, ticks_of, duration_of, lp_id_of}
 use Rattle.types.proofs.Halves.{lt_or_ge}
 use Rattle.words.specs.Words.{tick_at, tick_of, put_tick}
-use Rattle.words.proofs.Ticks.{length_put, tick_same, tick_other}
+use Rattle.words.proofs.Ticks.{tick_same, tick_other}
 use Rattle.records.specs.Records.{edge_at, edges_of}
 use Rattle.rules.specs.Base.{if◌then◌else◌}
-use Rattle.rules.specs.Pending.{joins, lookahead_along}
+use Rattle.rules.specs.Pending.{lookahead_along}
 use Rattle.rules.proofs.Tests.{by_test, and_left, and_right, and_both, not_both}
 use Rattle.reply_words.specs.declared.Emission.{Emission}
 use Rattle.edges.proofs.Marks.{source_below, destination_below, not_unknown}

@@ -1,11 +1,6 @@
-use mathlib.Core.Path.{◌≡◌, refl}
-use Prim.Native.Nat.{◌-◌}
-use native.Mathlib.Omega.{arith}
-use lib.ListN.{length, length-set}
-use borrow.Author.Rules.{rules}
-use Rattle.types.specs.Value.{lp_id_of}
-use Rattle.build_topology.proofs.Decided.{Stamped, stamped_none, stamped_all, stamped_unknown, stamped_self, stamped_twice, stamped_nought, stamped_new}
-use borrow.Author.Rules.{rules}
+use mathlib.Core.Path.{refl}
+use lib.ListN.{length-set}
+use Rattle.build_topology.proofs.Decided.{stamped_none, stamped_all, stamped_unknown, stamped_self, stamped_twice, stamped_nought, stamped_new}
 use Rattle.build_topology.proofs.check_row.Goals as goal
 
 pub loop-i-init : goal.loop-i-init

@@ -1,11 +1,8 @@
-use mathlib.Core.Path.{◌≡◌, refl}
+use mathlib.Core.Path.{◌≡◌}
 use Prim.Native.Nat.{◌-◌}
-use native.Mathlib.Omega.{arith}
-use lib.ListN.{length, length-set}
-use borrow.Author.Rules.{rules}
+use lib.ListN.{length}
 use Rattle.types.specs.Value.{lp_id_of}
-use Rattle.build_topology.proofs.Decided.{Stamped, stamped_none, stamped_all, stamped_unknown, stamped_self, stamped_twice, stamped_nought, stamped_new}
-use borrow.Author.Rules.{rules}
+use Rattle.build_topology.proofs.Decided.{Stamped}
 use Rattle.build_topology.proofs.check_row.Given as goal
 
 abbrev pub invariant-loop-i : goal.invariant-loop-i

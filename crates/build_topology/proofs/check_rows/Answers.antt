@@ -1,10 +1,6 @@
 use mathlib.Core.Path.{refl}
-use Prim.Native.Nat.{◌-◌}
 use native.Mathlib.Omega.{arith}
-use lib.ListN.{length}
-use borrow.Author.Rules.{rules}
-use Rattle.build_topology.proofs.Decided.{Turned, turned_none, turned_all, turned_ready, turned_fits, turned_unknown, turned_refused, turned_sound}
-use borrow.Author.Rules.{rules}
+use Rattle.build_topology.proofs.Decided.{turned_none, turned_all, turned_ready, turned_fits, turned_unknown, turned_refused, turned_sound}
 use Rattle.build_topology.proofs.check_rows.Goals as goal
 
 pub loop-i-init : goal.loop-i-init
@@ -31,7 +27,7 @@ check_row-fault-requires c =
 
 pub loop-i-preserved : goal.loop-i-preserved
 loop-i-preserved c =
-    turned_sound _ _ _ _ _ c.requires _ _ _ c.loop-i.invariant c.loop-i-test.true _ c.to_word.ensures c.if-n-to_word.false _ refl _ _ c.check_row-fault.ensures c.in-Valid.is c.check_row-fault.auto.lookaheads.1.1.1.0
+    turned_sound _ _ _ _ _ c.requires _ _ _ c.loop-i.invariant c.loop-i-test.true _ c.to_word.ensures c.if-n-to_word.false _ refl _ _ c.check_row-fault.ensures c.in-Valid.is c.check_row-fault.auto.marks
 
 pub returns-in_default : goal.returns-in_default
 returns-in_default c = search turned_refused depth 1

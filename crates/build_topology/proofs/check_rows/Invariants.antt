@@ -1,10 +1,6 @@
-use mathlib.Core.Path.{refl}
 use Prim.Native.Nat.{◌-◌}
-use native.Mathlib.Omega.{arith}
 use lib.ListN.{length}
-use borrow.Author.Rules.{rules}
-use Rattle.build_topology.proofs.Decided.{Turned, turned_none, turned_all, turned_ready, turned_fits, turned_unknown, turned_refused, turned_sound}
-use borrow.Author.Rules.{rules}
+use Rattle.build_topology.proofs.Decided.{Turned}
 use Rattle.build_topology.proofs.check_rows.Given as goal
 
 abbrev pub invariant-loop-i : goal.invariant-loop-i

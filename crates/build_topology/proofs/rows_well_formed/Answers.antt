@@ -2,7 +2,6 @@ use mathlib.Core.Path.{sym, ◌∙◌}
 use native.Mathlib.Omega.{arith}
 use borrow.Author.Tests.{not-true, not-false}
 use Rattle.build_topology.proofs.Sums.{fit_unpaired, fit_unordered, fit_unused, fit_many, fit_used}
-use borrow.Author.Rules.{rules}
 use Rattle.build_topology.proofs.rows_well_formed.Goals as goal
 
 pub returns-then-sources-counts : goal.returns-then-sources-counts

@@ -1,9 +1,5 @@
-use mathlib.Core.Path.{◌≡◌, refl, sym, ◌∙◌}
-use Prim.Native.Nat.{◌-◌}
+use mathlib.Core.Path.{sym, ◌∙◌}
 use native.Mathlib.Omega.{arith}
-use lib.Dec.{eqb}
-use lib.ListN.{length, drop}
-use Rattle.rules.specs.Base.{sum}
 use Rattle.build_topology.proofs.Sums.{sum_stops, sum_on, sum_ends}
 use Rattle.build_topology.proofs.sums_to.Goals as goal
 

@@ -1,10 +1,8 @@
-use mathlib.Core.Path.{◌≡◌, refl, sym, ◌∙◌}
+use mathlib.Core.Path.{◌≡◌}
 use Prim.Native.Nat.{◌-◌}
-use native.Mathlib.Omega.{arith}
 use lib.Dec.{eqb}
 use lib.ListN.{length, drop}
 use Rattle.rules.specs.Base.{sum}
-use Rattle.build_topology.proofs.Sums.{sum_stops, sum_on, sum_ends}
 use Rattle.build_topology.proofs.sums_to.Given as goal
 
 abbrev pub invariant-loop-i : goal.invariant-loop-i

@@ -1,5 +1,5 @@
 use borrow.Author.Rules.{rules}
-use Rattle.hand_back_edges.proofs.Finding.{Finding, finding_start, finding_asks, finding_more, finding_end}
+use Rattle.hand_back_edges.proofs.Finding.{finding_start, finding_asks, finding_more, finding_end}
 use Rattle.hand_back_edges.proofs.find_edges.Goals as goal
 
 pub loop-i-init : goal.loop-i-init

@@ -1,5 +1,4 @@
-use borrow.Author.Rules.{rules}
-use Rattle.hand_back_edges.proofs.Finding.{Finding, finding_start, finding_asks, finding_more, finding_end}
+use Rattle.hand_back_edges.proofs.Finding.{Finding}
 use Rattle.hand_back_edges.proofs.find_edges.Given as goal
 
 abbrev pub invariant-loop-i : goal.invariant-loop-i

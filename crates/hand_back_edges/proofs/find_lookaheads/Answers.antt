@@ -1,5 +1,5 @@
 use borrow.Author.Rules.{rules}
-use Rattle.hand_back_edges.proofs.Lookaheads.{Telling, telling_start, telling_asks, telling_more, telling_end}
+use Rattle.hand_back_edges.proofs.Lookaheads.{telling_start, telling_asks, telling_more, telling_end}
 use Rattle.hand_back_edges.proofs.find_lookaheads.Goals as goal
 
 pub loop-i-init : goal.loop-i-init

@@ -1,5 +1,4 @@
-use borrow.Author.Rules.{rules}
-use Rattle.hand_back_edges.proofs.Lookaheads.{Telling, telling_start, telling_asks, telling_more, telling_end}
+use Rattle.hand_back_edges.proofs.Lookaheads.{Telling}
 use Rattle.hand_back_edges.proofs.find_lookaheads.Given as goal
 
 abbrev pub invariant-loop-i : goal.invariant-loop-i

@@ -1,4 +1,3 @@
-use borrow.Author.Rules.{rules}
 use Rattle.hand_back_edges.proofs.Finding.{read_lookahead}
 use Rattle.hand_back_edges.proofs.lookahead_at.Goals as goal
 

@@ -1,4 +1,3 @@
-use borrow.Author.Rules.{rules}
 use Rattle.hand_back_edges.proofs.Finding.{row_free, put_one, put_none}
 use Rattle.hand_back_edges.proofs.put_edge.Goals as goal
 

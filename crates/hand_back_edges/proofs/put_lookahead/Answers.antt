@@ -1,4 +1,3 @@
-use borrow.Author.Rules.{rules}
 use Rattle.hand_back_edges.proofs.Lookaheads.{put_lookahead}
 use Rattle.hand_back_edges.proofs.put_lookahead.Goals as goal
 
