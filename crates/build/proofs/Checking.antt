@@ -31,7 +31,7 @@ use Rattle.build.specs.declared.BuildAnswer.TheVariants as P
 use Rattle.build.specs.Checks.{answer_of, answer_for, answer_of_rows, ChecksProcesses, ChecksTopology, ChecksBuild}
 use Rattle.build.specs.contracts.BuildAnswer.{the_type}
 use Rattle.build.proofs.AnswerRows.{answer_decided, answer_built, answer_refused, answer_passed, answer_on}
-use Rattle.build.proofs.Numbering.{refusals, refusing}
+use Rattle.build.proofs.Numbering.{refusing}
 
 -- 6 where a process has no row; else what is left answers.
 abbrev without_row : Maybe ℕ → A.Answer → A.Answer
@@ -158,7 +158,7 @@ module _ (n L : ℕ) (ids : List ℕ) (r : BuildAnswer) (j : ChecksProcesses n L
     built_answer : (c : Counters) → (build (setup n L ids ss cs ds (lookaheads_for ds ws)) c).answer ≡ answer_of_rows all
     built_answer c = answer_built (setup n L ids ss cs ds (lookaheads_for ds ws)) c
 
-    pub first_part : OneOf refusals (tag_of the_type r) → ChecksBuild n L ids ss cs ds ws r
+    pub first_part : (r ≡ P.Accepted → ⊥) → ChecksBuild n L ids ss cs ds ws r
     first_part w = record { of_counters = λ c. refusing r w (λ why e. e ∙ sym (built_answer c ∙ answer_refused (take 4 all) (drop 4 all) why (sym (j.of_setup ss cs ds (lookaheads_for ds ws)) ∙ e))) }
 
   module _ (e : r ≡ P.Accepted) where

@@ -12,17 +12,14 @@ use Rattle.build.specs.Checks.{answer_of}
 use Rattle.build.specs.Numbers.{number_of, values_of}
 use Rattle.build.specs.contracts.BuildAnswer.{the_type}
 
-abbrev pub refusals : List ℕ
-refusals = 1 ∷ 2 ∷ 3 ∷ 4 ∷ 5 ∷ 6 ∷ 7 ∷ 8 ∷ 9 ∷ 10 ∷ 11 ∷ []
-
 record Numbering (a : BuildAnswer) : Type 0 where
   pub number_is : number_of a ≡ number (answer_of a)
   pub values_are : values_of a ≡ values (answer_of a)
-  pub refuses : OneOf refusals (tag_of the_type a) → (why : A.Refusal) × (answer_of a ≡ A.Refused why)
+  pub refuses : (a ≡ P.Accepted → ⊥) → (why : A.Refusal) × (answer_of a ≡ A.Refused why)
 
 numbering : (a : BuildAnswer) → Numbering a
 unfolding number values refusal_number refusal_values
-numbering P.Accepted = record { number_is = refl; values_are = refl; refuses = λ w. absurd (miss refusals 0 tt w) }
+numbering P.Accepted = record { number_is = refl; values_are = refl; refuses = λ w. absurd (w refl) }
 numbering (P.InvalidPartitionCount n) = record { number_is = refl; values_are = refl; refuses = λ _. (_, refl) }
 numbering P.InvalidLookahead = record { number_is = refl; values_are = refl; refuses = λ _. (_, refl) }
 numbering P.UnorderedProcesses = record { number_is = refl; values_are = refl; refuses = λ _. (_, refl) }
@@ -43,5 +40,5 @@ module _ (a : BuildAnswer) where
     pub valued : values_of a ≡ values b
     valued = (numbering a).values_are ∙ ap values e
 
-  pub refusing : {C : Type 0} → OneOf refusals (tag_of the_type a) → ((why : A.Refusal) → answer_of a ≡ A.Refused why → C) → C
+  pub refusing : {C : Type 0} → (a ≡ P.Accepted → ⊥) → ((why : A.Refusal) → answer_of a ≡ A.Refused why → C) → C
   refusing w f = let r = (numbering a).refuses w in f r.0 r.1

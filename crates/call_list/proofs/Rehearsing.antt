@@ -23,7 +23,7 @@ use Rattle.build.specs.Checks.{answer_of, ChecksBuild}
 use Rattle.build.specs.Initialized.{CanInitialize, Initializes, empty_header}
 use Rattle.build.specs.contracts.BuildAnswer.{the_type}
 use Rattle.build.proofs.AnswerRows.{never}
-use Rattle.build.proofs.Numbering.{refusals, refusing}
+use Rattle.build.proofs.Numbering.{refusing}
 use Rattle.build.proofs.Initializing.{can_initialize}
 use Rattle.call_list.specs.declared.RunResult.{RunResult}
 use Rattle.call_list.specs.declared.RehearsalResult.{RehearsalResult}
@@ -70,7 +70,7 @@ module _ (n L : ℕ) (ids ss cs ds ws : List ℕ) (r : BuildAnswer) (j : ChecksB
       refused = λ why y. never why (sym y ∙ g.answered);
     }
 
-  pub turned_away_holds : (w : List ℕ) (h : Header) (k : Counters) → h ≡ empty_header → k ≡ zero_counters → OneOf refusals (tag_of the_type r)
+  pub turned_away_holds : (w : List ℕ) (h : Header) (k : Counters) → h ≡ empty_header → k ≡ zero_counters → (r ≡ P.Accepted → ⊥)
       → Rehearses a w (record { answer = r; state = record { edges = zeroes 3072; pending = zeroes 4096; processes = zeroes 256; batch = zeroes 512; head = h }; counters = k; calls = 0 })
   turned_away_holds w h k e d o = refusing r o (λ why x. record {
     answered = λ x. j.of_counters x;

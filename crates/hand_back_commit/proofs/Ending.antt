@@ -33,7 +33,6 @@ use Rattle.state.specs.View.{view}
 use Rattle.state.specs.Headers.{committed_header}
 use Rattle.state.specs.ValidArrays.{ValidArrays}
 use Rattle.state.specs.contracts.Answer.{the_type}
-use Rattle.state.proofs.Deciding.{others}
 use Rattle.state.proofs.Facts.{few_processes, batch_order, below_top, batch_runs}
 use Rattle.hand_back_emission.proofs.InHand.{findable}
 use Rattle.hand_back_check.specs.declared.ReplyCheck.{ReplyCheck}
@@ -162,8 +161,8 @@ module _ (failed next pending k : ℕ) where
 pub accepts : (a : Answer) → a ≡ P.Accepted → Accepts a true
 accepts a e = record { is = λ _. e; is_not = λ x. not_both refl x }
 
-pub accepts_not : (a : Answer) → OneOf others (tag_of the_type a) → Accepts a false
-accepts_not a o = record { is = λ x. not_both x refl; is_not = λ _ e. miss others 0 tt (subst (λ (y : Answer). OneOf others (tag_of the_type y)) e o) }
+pub accepts_not : (a : Answer) → (a ≡ P.Accepted → ⊥) → Accepts a false
+accepts_not a o = record { is = λ x. not_both x refl; is_not = λ _ e. miss others 0 tt (subst (λ (y : Answer). (y ≡ P.Accepted → ⊥)) e o) }
 
 module _ (a : ReplyCheck) (next pending k : ℕ) where
   pub last_refused : a.outcome.passed ≡ false → FinalCheck a next pending k a.outcome

@@ -19,7 +19,7 @@ use Rattle.build.specs.Initialized.{CanInitialize, Initializes, empty_header, em
 use Rattle.build.specs.contracts.BuildAnswer.{the_type}
 use Rattle.build.proofs.AnswerRows.{never, counters_accepted, counters_refused}
 use Rattle.build.proofs.Initializing.{can_initialize}
-use Rattle.build.proofs.Numbering.{refusals, refusing, numbered, valued}
+use Rattle.build.proofs.Numbering.{refusing, numbered, valued}
 use Rattle.runtime.specs.Builds.{Makes, Builds}
 
 -- A header, edges and processes, the other words zeros.
@@ -56,7 +56,7 @@ module _ (n L : ℕ) (ids sources counts ds ws : List ℕ) (c : Counters) (r : B
       refused = λ why x. never why (sym x ∙ accepts);
     }
 
-  pub refused : (s : Runtime) → s ≡ empty_runtime → OneOf refusals (tag_of the_type r) → Builds a c (record { answer = r; state = s; counters = c })
+  pub refused : (s : Runtime) → s ≡ empty_runtime → (r ≡ P.Accepted → ⊥) → Builds a c (record { answer = r; state = s; counters = c })
   refused s e w = refusing r w (λ why x. record {
     answered = answer_is;
     number_is = numbered r _ answer_is;

@@ -12,10 +12,6 @@ use Rattle.state.specs.View.{answer_of}
 use Rattle.state.specs.RefusalOr.{RefusalOr}
 use Rattle.state.specs.contracts.Answer.{the_type}
 
--- The tags of the other answers than Accepted.
-abbrev pub others : List ℕ
-others = 1 ∷ 2 ∷ 3 ∷ 4 ∷ 5 ∷ 6 ∷ 7 ∷ 8 ∷ 9 ∷ 10 ∷ 11 ∷ 12 ∷ 13 ∷ 14 ∷ 15 ∷ 16 ∷ 17 ∷ 18 ∷ 19 ∷ 20 ∷ 21 ∷ 22 ∷ 23 ∷ 24 ∷ 25 ∷ 26 ∷ 27 ∷ []
-
 module _ {A B : Type 0} where
   pub passes : A → RefusalOr P.Accepted A B
   passes x = record { passed = λ _. x; refused = λ n. absurd (n refl) }
@@ -25,5 +21,5 @@ module _ {A B : Type 0} where
     unfolding H.refused
     refuses r x = record { passed = λ e. absurd (true≢false (sym r ∙ ap (λ (y : Answer). H.refused (answer_of [] y)) e)); refused = λ _. x }
 
-    pub decided : RefusalOr a A B → OneOf others (tag_of the_type a) → B
-    decided d w = d.refused (λ e. miss others 0 tt (subst (λ (y : Answer). OneOf others (tag_of the_type y)) e w))
+    pub decided : RefusalOr a A B → (a ≡ P.Accepted → ⊥) → B
+    decided d w = d.refused w

@@ -17,8 +17,8 @@ returns-then-not-has_route c =
 
 pub returns-in-Sum : goal.returns-in-Sum
 returns-in-Sum c =
-    timed c.args.head c.args.lookahead _ c.args.e c.args.time _ c.eq.ensures (not_false _ c.if-not-eq.false-raw) _ c.to_word.ensures c.if-n-to_word.false _ c.has_route.ensures (not_false _ c.if-not-has_route.false-raw) c.minimum_tick-least.result c.minimum_tick-least.ensures _ c.least-1.given.1 c.check_tick.result c.check_tick.ensures
+    timed c.args.head c.args.lookahead _ c.args.e c.args.time _ c.eq.ensures (not_false _ c.if-not-eq.false-raw) _ c.to_word.ensures c.if-n-to_word.false _ c.has_route.ensures (not_false _ c.if-not-has_route.false-raw) c.minimum_tick-least.result c.minimum_tick-least.ensures _ c.in-Sum.is c.check_tick.result c.check_tick.ensures
 
 pub returns-in-Overflow : goal.returns-in-Overflow
 returns-in-Overflow c =
-    overflow c.args.head c.args.lookahead _ c.args.e c.args.time _ c.eq.ensures (not_false _ c.if-not-eq.false-raw) _ c.to_word.ensures c.if-n-to_word.false _ c.has_route.ensures (not_false _ c.if-not-has_route.false-raw) c.minimum_tick-least.result c.minimum_tick-least.ensures c.enum_told-1.given.1
+    overflow c.args.head c.args.lookahead _ c.args.e c.args.time _ c.eq.ensures (not_false _ c.if-not-eq.false-raw) _ c.to_word.ensures c.if-n-to_word.false _ c.has_route.ensures (not_false _ c.if-not-has_route.false-raw) c.minimum_tick-least.result c.minimum_tick-least.ensures c.in-Overflow.is
