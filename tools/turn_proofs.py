@@ -159,7 +159,7 @@ def turn_body(body, f, names, said):
     # let start = turn.before.before in
     while True:
         m = None
-        for m in re.finditer(r"let (\w+) = ([^\s(){};,]+) in\s*", text):
+        for m in re.finditer(r"let ([\w'-]+) = ([^\s(){};,]+) in\s*", text):
             parts = m.group(2).split(".")
             if parts[0] in roots and all(p == "before" for p in parts[1:]):
                 break

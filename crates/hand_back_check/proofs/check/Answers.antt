@@ -19,30 +19,18 @@ returns-then-malformed_emission c =
 
 pub returns-then-not-so_far : goal.returns-then-not-so_far
 returns-then-not-so_far c =
-    let sound-form = c in
-    let ill = sound-form.before in
-    let going = ill.before in
-    let start = going.before.before.before.before.before in
-    let g = not_false _ going.if1.false in
-    check_refused start.args.head _ _ _ _ start.args.a start.args.e g (start.requires g) _ ill.malformed-emission.ensures sound-form.if2.false _ c.to_word-emitter.ensures _ c.count_remote-remote.ensures (not_true _ c.if-not-so_far.true) _ c.checked.ensures
+    let g = not_false _ c.if-not-a.false in
+    check_refused c.args.head _ _ _ _ c.args.a c.args.e g (c.requires g) _ c.malformed_emission.ensures c.if-malformed_emission.false _ c.to_word-emitter.ensures _ c.count_remote-remote.ensures (not_true _ c.if-not-so_far.true) _ c.checked.ensures
 
 pub returns-then-a-emitter : goal.returns-then-a-emitter
 returns-then-a-emitter c =
-    let sound-form = c in
-    let ill = sound-form.before in
-    let going = ill.before in
-    let start = going.before.before.before.before.before in
-    let g = not_false _ going.if1.false in
-    check_behind start.args.head _ _ _ _ start.args.a start.args.e g (start.requires g) _ ill.malformed-emission.ensures sound-form.if2.false _ c.to_word-emitter.ensures _ c.count_remote-remote.ensures c.if-a-emitter.true _ c.checked-then-a-emitter.ensures
+    let g = not_false _ c.if-not-a.false in
+    check_behind c.args.head _ _ _ _ c.args.a c.args.e g (c.requires g) _ c.malformed_emission.ensures c.if-malformed_emission.false _ c.to_word-emitter.ensures _ c.count_remote-remote.ensures c.if-a-emitter.true _ c.checked-then-a-emitter.ensures
 
 pub tick_of-time-requires : goal.tick_of-time-requires
 tick_of-time-requires c =
-    let sound-form = c in
-    let ill = sound-form.before in
-    let going = ill.before in
-    let start = going.before.before.before.before.before in
-    let g = not_false _ going.if1.false in
-    in_hand_holds start.args.head (duration_of start.args.lookahead) _ _ _ start.args.a start.args.e g (start.requires g) _ ill.malformed-emission.ensures sound-form.if2.false _ c.to_word-emitter.ensures
+    let g = not_false _ c.if-not-a.false in
+    in_hand_holds c.args.head (duration_of c.args.lookahead) _ _ _ c.args.a c.args.e g (c.requires g) _ c.malformed_emission.ensures c.if-malformed_emission.false _ c.to_word-emitter.ensures
 
 pub check_emission-verdict-requires : goal.check_emission-verdict-requires
 check_emission-verdict-requires c =
@@ -50,9 +38,5 @@ check_emission-verdict-requires c =
 
 pub returns : goal.returns
 returns c =
-    let sound-form = c in
-    let ill = sound-form.before in
-    let going = ill.before in
-    let start = going.before.before.before.before.before in
-    let g = not_false _ going.if1.false in
-    check_checked start.args.head _ _ _ _ start.args.a start.args.e g (start.requires g) _ ill.malformed-emission.ensures sound-form.if2.false _ c.to_word-emitter.ensures _ c.count_remote-remote.ensures (not_false _ c.if-not-so_far.false) c.if-a-emitter.false c.tick_of-time.result c.tick_of-time.ensures c.check_emission-verdict.result c.check_emission-verdict.ensures _ c.checked-2.ensures
+    let g = not_false _ c.if-not-a.false in
+    check_checked c.args.head _ _ _ _ c.args.a c.args.e g (c.requires g) _ c.malformed_emission.ensures c.if-malformed_emission.false _ c.to_word-emitter.ensures _ c.count_remote-remote.ensures (not_false _ c.if-not-so_far.false) c.if-a-emitter.false c.tick_of-time.result c.tick_of-time.ensures c.check_emission-verdict.result c.check_emission-verdict.ensures _ c.checked-2.ensures
