@@ -162,7 +162,7 @@ pub accepts : (a : Answer) → a ≡ P.Accepted → Accepts a true
 accepts a e = record { is = λ _. e; is_not = λ x. not_both refl x }
 
 pub accepts_not : (a : Answer) → (a ≡ P.Accepted → ⊥) → Accepts a false
-accepts_not a o = record { is = λ x. not_both x refl; is_not = λ _ e. miss others 0 tt (subst (λ (y : Answer). (y ≡ P.Accepted → ⊥)) e o) }
+accepts_not a o = record { is = λ x. not_both x refl; is_not = λ _ e. o e }
 
 module _ (a : ReplyCheck) (next pending k : ℕ) where
   pub last_refused : a.outcome.passed ≡ false → FinalCheck a next pending k a.outcome
