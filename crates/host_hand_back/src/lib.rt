@@ -1,6 +1,5 @@
 // Hand back of a reply that comes as emission records: what stands before, between and behind the two
-// passes over them. The prover's own walk takes no slice of structs, so the two loops are proved by
-// hand; each calls a covered step for each emission and does nothing else.
+// passes over them, and the step of each pass. The two loops stand in `host_reply`.
 
 #![tactic(auto)]
 

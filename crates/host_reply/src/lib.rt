@@ -1,6 +1,5 @@
 // The two passes over a reply of emission records: "a lent list of emission records, each with its
-// emitter". The prover's own walk takes no slice of structs, so these loops are proved by hand; each
-// calls a covered step for each emission and does nothing else.
+// emitter". Each calls a step for each emission and does nothing else.
 
 #![tactic(auto)]
 

@@ -5,7 +5,7 @@ use Rattle.host_hand_back.proofs.close.Goals as goal
 
 pub returns-then-not-check : goal.returns-then-not-check
 returns-then-not-check c =
-    closes_as_given c.args.state c.args.counters c.args.scan c.args.admission _ (not_true _ c.if-not-check.true) _ c.as_given_holds.ensures
+    closes_as_given c.args.state c.args.counters c.args.scan c.args.admission _ (not_true _ c.if-not-check.true) _ c.as_given.ensures
 
 pub commit-requires : goal.commit-requires
 commit-requires c =

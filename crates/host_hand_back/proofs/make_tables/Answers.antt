@@ -14,13 +14,8 @@ find_lookaheads-requires c =
 
 pub fill-requires : goal.fill-requires
 fill-requires c =
-    (omega (arith, cleared_length _ c.requires.3, c.words-1.given), search rules, c.requires.1, c.requires.2)
+    (omega (arith, cleared_length _ c.requires.3), search rules, c.requires.1, c.requires.2)
 
 pub returns : goal.returns
 returns c =
-    let found-words = c in
-    let found = found-words.before in
-    let going = found.before.before in
-    let begin = going.before.before.before in
-    let start = begin.before.before.before.before.before.before in
-    tabled start.args.head _ _ _ start.args.mask _ _ begin.begin-check.ensures (not_false _ going.if1.false) _ (omega (arith, cleared_length _ start.requires.3, found-words.words.given)) start.requires.1 start.requires.2 _ c.fill.ensures found.find-lookaheads.ensures
+    tabled c.args.head _ _ _ c.args.mask _ _ c.begin_check-start.ensures (not_false _ c.if-not-start.false) _ (omega (arith, cleared_length _ c.requires.3, c.find_lookaheads.auto.table)) c.requires.1 c.requires.2 _ c.fill.ensures c.find_lookaheads.ensures
