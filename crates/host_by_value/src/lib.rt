@@ -1,6 +1,5 @@
-// The calls of `host` with plain parameters, for programs that are proved: the walk of the prover does
-// not cover a function that lends a struct or a slice of structs, so each of these is proved by hand.
-// The counters are a local that is lent for the call, and a reply is the front of an array.
+// The calls of `host` with plain parameters: the counters are a local that is lent for the call, and a
+// reply is the front of an array.
 
 #![tactic(auto)]
 

@@ -1,3 +1,0 @@
-pub mod Thin
-pub mod Reading
-pub mod Lent

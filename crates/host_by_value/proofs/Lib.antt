@@ -1,4 +1,0 @@
-pub mod Cell
-pub mod Front
-pub mod Lending
-pub mod Reading
