@@ -1,5 +1,3 @@
-use native.Mathlib.Omega.{arith}
-use borrow.Author.Rules.{rules}
 use Rattle.text_input.proofs.skip_words.Goals as goal
 
 pub loop-left-init : goal.loop-left-init

@@ -1,5 +1,3 @@
-use native.Mathlib.Omega.{arith}
-use borrow.Author.Rules.{rules}
 use Rattle.text_input.proofs.skip_words.Given as goal
 
 abbrev pub invariant-loop-left : goal.invariant-loop-left
