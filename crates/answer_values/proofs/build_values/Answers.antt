@@ -1,4 +1,3 @@
-use borrow.Author.Rules.{rules}
 use Rattle.answer_values.proofs.Same.{same_build}
 use Rattle.answer_values.proofs.build_values.Goals as goal
 

@@ -1,4 +1,3 @@
-use borrow.Author.Rules.{rules}
 use Rattle.answer_values.proofs.Same.{same_number}
 use Rattle.answer_values.proofs.number_of.Goals as goal
 

@@ -1,4 +1,3 @@
-use borrow.Author.Rules.{rules}
 use Rattle.answer_values.proofs.Same.{same_read}
 use Rattle.answer_values.proofs.read_values.Goals as goal
 

@@ -1,4 +1,3 @@
-use borrow.Author.Rules.{rules}
 use Rattle.rules.specs.Answers.{event_values}
 use Rattle.answer_values.proofs.Same.{same_answer}
 use Rattle.answer_values.proofs.values_of.Goals as goal
@@ -7,6 +6,7 @@ pub returns-in-Accepted : goal.returns-in-Accepted
 returns-in-Accepted c = search same_answer depth 1
 
 pub returns-in-Batch : goal.returns-in-Batch
+unfolding event_values
 returns-in-Batch c = search same_answer depth 1
 
 pub returns-in-Advanced : goal.returns-in-Advanced

@@ -1,4 +1,3 @@
-use borrow.Author.Rules.{rules}
 use Rattle.call_words.proofs.Decoding.{size_past, size_0, size_1, size_2, size_3, size_other}
 use Rattle.call_words.proofs.call_size.Goals as goal
 

@@ -1,4 +1,3 @@
-use borrow.Author.Rules.{rules}
 use native.Mathlib.Omega.{arith}
 use Rattle.call_words.proofs.Decoding.{size_broken, size_fits}
 use Rattle.call_words.proofs.complete_size.Goals as goal

@@ -1,4 +1,3 @@
-use borrow.Author.Rules.{rules}
 use native.Mathlib.Omega.{arith}
 use Rattle.call_words.proofs.Decoding.{back_too_many, back_broken, back_fits}
 use Rattle.call_words.proofs.hand_back_size.Goals as goal

@@ -1,4 +1,3 @@
-use borrow.Author.Rules.{rules}
 use Rattle.call_words.proofs.Decoding.{message_is}
 use Rattle.call_words.proofs.message_in.Goals as goal
 

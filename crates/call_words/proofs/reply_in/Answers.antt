@@ -1,4 +1,3 @@
-use borrow.Author.Rules.{rules}
 use Rattle.call_words.proofs.Cutting.{reply_is}
 use Rattle.call_words.proofs.reply_in.Goals as goal
 

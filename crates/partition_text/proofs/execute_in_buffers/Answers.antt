@@ -2,7 +2,6 @@ use Prim.Native.Nat.{◌*◌}
 use mathlib.Core.Path.{sym}
 use native.Mathlib.Omega.{arith}
 use lib.Seq.{length-take-le}
-use borrow.Author.Rules.{rules}
 use Rattle.partition_text.proofs.execute_in_buffers.Goals as goal
 
 pub slice_bounds-execute-end : goal.slice_bounds-execute-end

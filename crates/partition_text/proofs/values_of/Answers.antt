@@ -1,5 +1,4 @@
 use mathlib.Core.Path.{◌≡◌, sym, ap}
-use borrow.Author.Rules.{rules}
 use Rattle.partition.specs.declared.PlanAnswer.{PlanAnswer}
 use Rattle.partition.specs.PlanNumbers.{values_of}
 use Rattle.partition_text.proofs.values_of.Goals as goal

@@ -1,9 +1,7 @@
 use native.Mathlib.Omega.{arith}
-use Prim.Native.Nat.{◌-◌, ◌≤◌}
-use mathlib.Core.Path.{◌≡◌, refl}
-use lib.ListN.{length, length-set}
-use Rattle.text_input.specs.Little.{word_of}
-use Rattle.text_input.proofs.Decoded.{storing, storing_more, storing_end}
+use mathlib.Core.Path.{refl}
+use lib.ListN.{length-set}
+use Rattle.text_input.proofs.Decoded.{storing_more, storing_end}
 use Rattle.text_input.proofs.decode.Goals as goal
 
 pub loop-i-init : goal.loop-i-init

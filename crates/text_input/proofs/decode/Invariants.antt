@@ -1,9 +1,8 @@
-use native.Mathlib.Omega.{arith}
 use Prim.Native.Nat.{◌-◌, ◌≤◌}
-use mathlib.Core.Path.{◌≡◌, refl}
-use lib.ListN.{length, length-set}
+use mathlib.Core.Path.{◌≡◌}
+use lib.ListN.{length}
 use Rattle.text_input.specs.Little.{word_of}
-use Rattle.text_input.proofs.Decoded.{storing, storing_more, storing_end}
+use Rattle.text_input.proofs.Decoded.{storing}
 use Rattle.text_input.proofs.decode.Given as goal
 
 abbrev pub invariant-loop-i : goal.invariant-loop-i

@@ -3,7 +3,6 @@ use mathlib.Core.Path.{sym}
 use native.Mathlib.Omega.{arith}
 use lib.ListN.{length}
 use lib.Seq.{length-take-le}
-use borrow.Author.Rules.{rules}
 use Rattle.text_input.proofs.read_block.Goals as goal
 
 pub slice_bounds-read_through-end : goal.slice_bounds-read_through-end

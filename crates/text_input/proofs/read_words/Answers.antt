@@ -1,8 +1,5 @@
 use native.Mathlib.Omega.{arith}
-use borrow.Author.Rules.{rules}
-use Prim.Native.Nat.{◌-◌, ◌≤◌}
-use mathlib.Core.Path.{◌≡◌, refl, ◌∙◌}
-use lib.ListN.{length}
+use mathlib.Core.Path.{refl, ◌∙◌}
 use Rattle.text_input.proofs.Parts.{length_part, length_back, within, less}
 use Rattle.text_input.proofs.read_words.Goals as goal
 
@@ -21,29 +18,29 @@ shape_of-w-then-done-end c =
     let l = c.loop-done in
     let n = c.min.result in
     let q = c.read_block-came in
-    length_back l.done n l.w (omega arith) q.new.1.0 q.auto.1.0 ∙ l.invariant.1
+    length_back l.done n l.w (omega arith) q.new.w q.auto.w ∙ l.invariant.1
 
 pub returns-then-done-end : goal.returns-then-done-end
 returns-then-done-end c =
     let l = c.loop-done in
     let n = c.min.result in
     let q = c.read_block-came in
-    within l.done n l.w (omega arith) q.new.1.0 q.auto.1.0 q.result q.ensures
+    within l.done n l.w (omega arith) q.new.w q.auto.w q.result q.ensures
 
 pub loop-done-smaller : goal.loop-done-smaller
 loop-done-smaller c =
     let l = c.loop-done in
     let n = c.min.result in
     let q = c.read_block-came in
-    less l.done n l.w (omega arith) q.new.1.0 q.auto.1.0 q.result (omega arith) (omega arith)
+    less l.done n l.w (omega arith) q.new.w q.auto.w q.result (omega arith) (omega arith)
 
 pub loop-done-preserved : goal.loop-done-preserved
 loop-done-preserved c =
     let l = c.loop-done in
     let n = c.min.result in
     let q = c.read_block-came in (
-      within l.done n l.w (omega arith) q.new.1.0 q.auto.1.0 q.result q.ensures,
-      length_back l.done n l.w (omega arith) q.new.1.0 q.auto.1.0 ∙ l.invariant.1,
+      within l.done n l.w (omega arith) q.new.w q.auto.w q.result q.ensures,
+      length_back l.done n l.w (omega arith) q.new.w q.auto.w ∙ l.invariant.1,
     )
 
 pub shape_of-w : goal.shape_of-w

@@ -1,9 +1,6 @@
-use native.Mathlib.Omega.{arith}
-use borrow.Author.Rules.{rules}
 use Prim.Native.Nat.{◌-◌, ◌≤◌}
-use mathlib.Core.Path.{◌≡◌, refl, ◌∙◌}
+use mathlib.Core.Path.{◌≡◌}
 use lib.ListN.{length}
-use Rattle.text_input.proofs.Parts.{length_part, length_back, within, less}
 use Rattle.text_input.proofs.read_words.Given as goal
 
 abbrev pub invariant-loop-done : goal.invariant-loop-done

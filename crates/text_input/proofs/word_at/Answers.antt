@@ -1,7 +1,6 @@
 use native.Mathlib.Omega.{arith}
-use Prim.Native.Nat.{◌-◌, ◌≤◌, ◌<◌}
-use mathlib.Core.Path.{◌≡◌, ◌∙◌, sym}
-use Rattle.text_input.proofs.Bytes.{from, from_end, from_more, from_whole, room, room_more, room_left}
+use mathlib.Core.Path.{◌∙◌, sym}
+use Rattle.text_input.proofs.Bytes.{from_end, from_more, from_whole, room, room_more, room_left}
 use Rattle.text_input.proofs.word_at.Goals as goal
 
 pub loop-i-init : goal.loop-i-init
@@ -16,8 +15,8 @@ loop-i-preserved c =
     let l = c.loop-i in
     let r = c.with_lowest-word in (
       omega arith,
-      from_more _ _ l.i l.word _ (omega arith) (omega arith) (omega arith) l.invariant.1 r.ensures.0,
-      room_more l.i l.word _ (omega arith) (omega arith) l.invariant.2 r.ensures.1,
+      from_more _ _ l.i l.word _ (omega arith) (omega arith) (omega arith) l.invariant.1 r.ensures.value,
+      room_more l.i l.word _ (omega arith) (omega arith) l.invariant.2 r.ensures.upper_bound,
     )
 
 pub returns : goal.returns

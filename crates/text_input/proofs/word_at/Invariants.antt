@@ -1,7 +1,6 @@
-use native.Mathlib.Omega.{arith}
 use Prim.Native.Nat.{◌-◌, ◌≤◌, ◌<◌}
-use mathlib.Core.Path.{◌≡◌, ◌∙◌, sym}
-use Rattle.text_input.proofs.Bytes.{from, from_end, from_more, from_whole, room, room_more, room_left}
+use mathlib.Core.Path.{◌≡◌}
+use Rattle.text_input.proofs.Bytes.{from, room}
 use Rattle.text_input.proofs.word_at.Given as goal
 
 abbrev pub invariant-loop-i : goal.invariant-loop-i
