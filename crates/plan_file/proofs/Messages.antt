@@ -9,8 +9,8 @@ use lib.Seq.{drop-drop}
 use Rattle.bits.specs.Bits.{value_of}
 use Rattle.rules.specs.State.{Message}
 use Rattle.plan_file.specs.Format.{Got, Got.short, Got.got, field, counted, gets}
-use Rattle.plan_file.specs.Plan.{PlanEdge, Reply}
-use Rattle.plan_file.specs.Grammar.{edge, message, reply}
+use Rattle.plan_file.specs.Plan.{Reply}
+use Rattle.plan_file.specs.Grammar.{message, reply}
 use Rattle.plan_file.specs.Standing.{StandsAt, IsGot}
 use Rattle.plan_file.proofs.Reading.{FieldParts, field_parts, head_parts, seen_parts, count_parts, FirstParts, first_parts, gets_length}
 

@@ -1,7 +1,7 @@
 -- A reply is filled event by event.
 use mathlib.Core.Path.{◌≡◌, refl, sym, ap, subst, ◌∙◌}
 use mathlib.Core.List.{List, [], ◌∷◌, ◌++◌, map, append_assoc, append-nil}
-use Prim.Native.Nat.{ℕ, suc, ◌+◌, ◌*◌, ◌≤◌, ◌<◌}
+use Prim.Native.Nat.{ℕ, ◌+◌, ◌*◌, ◌≤◌, ◌<◌}
 use native.Mathlib.Omega.{arith}
 use lib.ListN.{length, get_or}
 use Rattle.bits.specs.Bytes.{stream}
@@ -11,7 +11,6 @@ use Rattle.rules.specs.State.{Event}
 use Rattle.rules.specs.HandBack.{Emission}
 use Rattle.records.specs.Records.{record_in, event_at, events_of, Owners}
 use Rattle.plan_file.specs.Plan.{Reply}
-use Rattle.plan_file.specs.Events.{emission_count}
 use Rattle.plan_rules.specs.Host.{emission, reply_of, without, spend, due}
 use Rattle.plan_rules.proofs.Replies.{size_spend}
 use Rattle.plan_replies.specs.Table.{Table}

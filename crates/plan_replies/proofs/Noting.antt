@@ -1,7 +1,7 @@
 -- The places of the replies are noted one after the other.
 use mathlib.Core.Path.{◌≡◌, refl, sym, ap, subst, ◌∙◌}
 use mathlib.Core.Bool.{Bool}
-use mathlib.Core.List.{List, [], ◌∷◌}
+use mathlib.Core.List.{List, ◌∷◌}
 use Prim.Native.Nat.{ℕ, zero, suc, ◌+◌, ◌*◌, ◌≤◌, ◌<◌}
 use native.Mathlib.Omega.{arith}
 use lib.Dec.{eqb}
@@ -10,7 +10,7 @@ use lib.Seq.{get_or-set_same, get_or-set_other, drop-cons}
 use borrow.Author.Tests.{eqb-true, eqb-false}
 use Rattle.words.specs.Words.{zeroes}
 use Rattle.rules.proofs.Tests.{by_bool}
-use Rattle.plan_file.specs.Format.{Got, Got.short, Got.got}
+use Rattle.plan_file.specs.Format.{Got.short, Got.got}
 use Rattle.plan_file.specs.Plan.{Reply}
 use Rattle.plan_file.specs.Grammar.{reply}
 use Rattle.plan_file.specs.Standing.{Standing}

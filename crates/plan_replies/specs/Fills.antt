@@ -1,9 +1,8 @@
 -- The reply to a batch, filled from the file.
-use Rattle.std.specs.Prelude.{◌≡◌, Bool, List, ◌++◌, map, ℕ, ◌+◌, ◌*◌, ◌≤◌, ◌<◌, length}
+use Rattle.std.specs.Prelude.{◌≡◌, List, ◌++◌, map, ℕ, ◌+◌, ◌*◌, ◌≤◌, length}
 use Rattle.bits.specs.Bytes.{stream}
 use Rattle.rules.specs.State.{Event}
 use Rattle.rules.specs.HandBack.{Emission}
-use Rattle.records.specs.Records.{Owners}
 use Rattle.reply_words.specs.Emissions.{emissions_of}
 use Rattle.plan_file.specs.Plan.{Reply}
 use Rattle.plan_file.specs.Events.{emission_count}

@@ -2,10 +2,9 @@
 use mathlib.Core.Path.{◌≡◌, refl, sym, ap, ◌∙◌}
 use mathlib.Core.Bool.{Bool}
 use mathlib.Core.List.{List, [], ◌∷◌, ◌++◌, map}
-use Prim.Native.Nat.{ℕ, zero, suc, ◌+◌, ◌-◌, ◌*◌, ◌/◌, ◌%◌, ◌^◌, ◌≤◌, ◌<◌}
+use Prim.Native.Nat.{ℕ, zero, suc, ◌+◌, ◌*◌, ◌/◌, ◌%◌, ◌≤◌, ◌<◌}
 use native.Mathlib.Omega.{arith}
 use native.Mathlib.Numerals.{add-one}
-use lib.Dec.{leb}
 use lib.ListN.{length, take, drop, get_or, set, length-drop}
 use lib.Seq.{drop-drop, take-add, length-take-le}
 use borrow.Author.Tests.{le-leb}
@@ -14,7 +13,7 @@ use Rattle.bits.specs.Bytes.{stream}
 use Rattle.bits.proofs.Fields.{value_take, value_append}
 use Rattle.bits.proofs.Streams.{length_stream}
 use Rattle.plan_file.specs.Plan.{PlanEdge}
-use Rattle.plan_file.specs.Format.{Got, Got.got, next, get_field, field, pair, seen, gets}
+use Rattle.plan_file.specs.Format.{Got.got, next, get_field, field, pair, seen, gets}
 use Rattle.plan_file.specs.Grammar.{edge}
 use Rattle.plan_rows.specs.Rows.{ReadsEdges}
 use Rattle.plan_rows.proofs.Filling.{one_behind}

@@ -6,7 +6,6 @@ use Prim.Native.Nat.{ℕ, suc, ◌+◌, ◌*◌, ◌≤◌}
 use native.Mathlib.Omega.{arith}
 use lib.ListN.{length, take, drop, length-append, length-drop}
 use lib.Seq.{get_or-take}
-use Rattle.bits.specs.Bits.{bits_of}
 use Rattle.bits.specs.Bytes.{stream}
 use Rattle.bits.proofs.Fields.{length_bits}
 use Rattle.bits.proofs.Streams.{length_stream}
@@ -16,7 +15,7 @@ use Rattle.words.proofs.Tab.{tab_cong, tab_shift}
 use Rattle.words.proofs.Ticks.{tick_cong}
 use Rattle.build_topology.specs.Lookaheads.{lookaheads_for}
 use Rattle.plan_file.specs.Plan.{PlanEdge, Plan}
-use Rattle.plan_file.specs.Format.{Got, Got.got, field, pair, seen, puts, gets, ReadsAll, gets_back}
+use Rattle.plan_file.specs.Format.{Got.got, field, pair, seen, puts, gets, ReadsAll, gets_back}
 use Rattle.plan_file.specs.Grammar.{edge}
 use Rattle.plan_file.specs.Standing.{Standing}
 

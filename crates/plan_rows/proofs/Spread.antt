@@ -1,12 +1,12 @@
 -- The rows of a plan by its table: for each source up to 64 one, where it is a process or has edges.
 use mathlib.Core.Path.{◌≡◌, refl, sym, ap, ◌∙◌}
 use mathlib.Core.Logic.{⊎_elim}
-use mathlib.Core.Bool.{Bool, true, false, not, ◌&&◌, ◌||◌, true≢false}
+use mathlib.Core.Bool.{Bool, true, false, not}
 use mathlib.Core.List.{List, [], ◌∷◌, ◌++◌, map, append-nil, append_assoc}
 use Prim.Native.Nat.{ℕ, zero, suc, ◌+◌, ◌≤◌, ◌<◌}
 use native.Mathlib.Omega.{arith}
-use lib.Dec.{leb, ltb, eqb}
-use borrow.Author.Tests.{leb-true, ltb-true, ltb-false, eqb-true, eqb-false, le-leb, le-ltb, lt-ltb, eq-eqb, ne_eqb, not-false}
+use lib.Dec.{leb, eqb}
+use borrow.Author.Tests.{leb-true, eqb-true, le-ltb, lt-ltb, eq-eqb, ne_eqb, not-false}
 use Rattle.rules.specs.Base.{if◌then◌else◌, up_from, up_to, count, rising}
 use Rattle.rules.proofs.Tests.{by_bool, and_left, and_right}
 use Rattle.rules.proofs.Lists.{All}

@@ -1,6 +1,5 @@
 -- The lookaheads of a file's edges, stored as a table of two words each.
 use mathlib.Core.Path.{◌≡◌, refl, sym, ap, ◌∙◌}
-use mathlib.Core.Bool.{Bool}
 use mathlib.Core.Logic.{⊎_elim}
 use mathlib.Core.List.{List, [], ◌∷◌, ◌++◌, map}
 use Prim.Native.Nat.{ℕ, zero, suc, ◌+◌, ◌*◌, ◌≤◌, ◌<◌}
@@ -11,7 +10,7 @@ use lib.Seq.{drop-drop}
 use Rattle.types.specs.declared.SimTime.{SimTime}
 use Rattle.types.specs.Value.{ticks_of}
 use Rattle.types.proofs.Halves.{lt_or_ge}
-use Rattle.words.specs.Words.{tab, tick_at, tick_of, put_tick}
+use Rattle.words.specs.Words.{tab, tick_of, put_tick}
 use Rattle.words.proofs.Tab.{tab_cong, tab_push}
 use Rattle.words.proofs.Ticks.{table_same, table_other}
 use Rattle.bits.specs.Bits.{value_of}

@@ -1,19 +1,18 @@
 -- Edges counted by source, and rows written from the counts.
 use mathlib.Core.Path.{◌≡◌, refl, sym, ap, ◌∙◌, subst}
-use mathlib.Core.Logic.{⊎_elim}
-use mathlib.Core.Bool.{Bool, true, false, not, ◌||◌}
+use mathlib.Core.Bool.{Bool, true, false, not}
 use mathlib.Core.List.{List, [], ◌∷◌, ◌++◌, map, append-nil, append_assoc}
-use Prim.Native.Nat.{ℕ, zero, suc, ◌+◌, ◌-◌, ◌≤◌, ◌<◌}
+use Prim.Native.Nat.{ℕ, zero, suc, ◌+◌, ◌≤◌, ◌<◌}
 use native.Mathlib.Omega.{arith}
 use native.Mathlib.Numerals.{add-one}
-use lib.Dec.{leb, ltb, eqb}
-use lib.ListN.{length, take, drop, get_or, set, length-set, length-append, length-replicate, get_or-replicate, replicate}
+use lib.Dec.{eqb}
+use lib.ListN.{length, take, get_or, set, length-set, length-append, get_or-replicate, replicate}
 use lib.Seq.{take-suc, take-suc-set, take_all, length-take-le, get_or-set_same, get_or-set_other}
 use borrow.Author.Tests.{eqb-true, eqb-false, eq-eqb, ne_eqb, lt-ltb, le-ltb}
-use Rattle.rules.specs.Base.{if◌then◌else◌, count, rising}
+use Rattle.rules.specs.Base.{if◌then◌else◌, count}
 use Rattle.rules.proofs.Tests.{by_bool}
 use Rattle.rules.proofs.Lists.{All}
-use Rattle.plan_file.specs.Plan.{PlanEdge, Plan}
+use Rattle.plan_file.specs.Plan.{Plan}
 use Rattle.plan_rules.specs.Setup.{TopologyRow, rows, setup_of}
 use Rattle.plan_rows.specs.Rows.{Rowable, MakesRows, Tallies, has_row, row_if, spread, table_rows, PutsRows}
 use Rattle.plan_rows.proofs.Spread.{spread_cong, spread_more, sources, rows_by_table}

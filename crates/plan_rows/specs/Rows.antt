@@ -1,6 +1,6 @@
 -- The lists that build takes, made of a plan's edges: document 02, A.1. "Every process has a row, and so has any other source of an edge".
-use Rattle.std.specs.Prelude.{◌≡◌, Bool, true, false, not, ◌||◌, List, [], ◌∷◌, ◌++◌, map, ℕ, zero, suc, ◌+◌, ◌*◌, ◌≤◌, ◌<◌, leb, ltb, eqb, length, take, drop, get_or}
-use Rattle.rules.specs.Base.{count, rising, up_to}
+use Rattle.std.specs.Prelude.{◌≡◌, Bool, true, false, not, ◌||◌, List, [], ◌∷◌, ◌++◌, map, ℕ, zero, suc, ◌+◌, ◌≤◌, ◌<◌, leb, ltb, eqb, length, take, drop, get_or}
+use Rattle.rules.specs.Base.{count, rising}
 use Rattle.bits.specs.Bytes.{stream}
 use Rattle.words.specs.Words.{ticks_in}
 use Rattle.plan_file.specs.Plan.{PlanEdge, Plan}

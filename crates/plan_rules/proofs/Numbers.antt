@@ -13,7 +13,7 @@ use Rattle.rules.specs.State.{Message, Event, Stored, unset, stored, State, Coun
 use Rattle.rules.specs.Answers.{Accepted, refusal_number, number}
 use Rattle.rules.specs.Rows.{Row, Out}
 use Rattle.rules.specs.Build.{build, built}
-use Rattle.rules.specs.Foreign.{foreign, is_unset}
+use Rattle.rules.specs.Foreign.{is_unset}
 use Rattle.rules.specs.Initial.{initial_rows, add_initial}
 use Rattle.rules.specs.Begin.{previous, begin_rows, begin}
 use Rattle.rules.specs.Refresh.{refreshed}

@@ -1,5 +1,5 @@
 -- What build makes of a plan, and what it never refuses.
-use mathlib.Core.Path.{◌≡◌, refl, sym, ap, ◌∙◌}
+use mathlib.Core.Path.{◌≡◌, refl, sym, ap, ◌∙◌, subst}
 use mathlib.Core.Bool.{Bool, true, false, not, ◌&&◌, ◌||◌, true≢false}
 use mathlib.Core.List.{List, [], ◌∷◌, ◌++◌, map}
 use Prim.Native.Nat.{ℕ, zero, suc, ◌+◌, ◌≤◌, ◌<◌}
@@ -35,7 +35,7 @@ unfolding edges_by edges_of joined
 edges_joined q t [] ts = refl
 edges_joined q t (r ∷ rs) ts =
     by_test (λ (l : List TopologyRow). edges_by l (t ∷ ts) ≡ edge_to q t ∷ edges_by (r ∷ rs) ts)
-    (λ e. rw (eqb-true q r.source e))
+    (λ e. subst (λ (s : ℕ). edges_by (record { source = q; count = suc r.count } ∷ rs) (t ∷ ts) ≡ edge_to q t ∷ edges_by (record { source = s; count = r.count } ∷ rs) ts) (eqb-true q r.source e) refl)
     (λ e. refl)
 
 edges_edge_rows : (es : List PlanEdge) → edges_by (edge_rows es) (targets_of es) ≡ map edge es
@@ -127,7 +127,7 @@ rises_joined q a (r ∷ rs) =
   where
     head_on : (n : ℕ) (ms : List TopologyRow) → let m : List TopologyRow = record { source = a; count = n } ∷ ms in Rises (joined q m) ≡ leb q a && Rises m
     head_on n ms =
-        by_test (λ (l : List TopologyRow). Rises l ≡ leb q a && Rises (record { source = a; count = n } ∷ ms)) (λ t. let e : q ≡ a = eqb-true q a t in rw (e, le-leb a a (omega arith)))
+        by_test (λ (l : List TopologyRow). Rises l ≡ leb q a && Rises (record { source = a; count = n } ∷ ms)) (λ t. let e : q ≡ a = eqb-true q a t in subst (λ (s : ℕ). Rises (record { source = q; count = suc n } ∷ ms) ≡ leb q s && Rises (record { source = s; count = n } ∷ ms)) e (rw (le-leb q q (omega arith))))
         (λ t. let g = eqb-false q a t in by_bool (leb q a) (λ u. let f = leb-true q a u in rw (u, lt-ltb q a (omega arith))) (λ u. let f = leb-false q a u in rw (u, le-ltb q a (omega arith))))
 
 rises_edge_rows : (es : List PlanEdge) → Rises (edge_rows es) ≡ stand es

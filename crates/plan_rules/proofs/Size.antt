@@ -8,8 +8,7 @@ use lib.ListN.{length, length-append}
 use borrow.Author.Tests.{ltb-false}
 use Rattle.rules.specs.Base.{if◌then◌else◌, Maybe, none, some}
 use Rattle.rules.specs.State.{Event, Counters}
-use Rattle.rules.specs.Answers
-use Rattle.rules.specs.Answers.{Refusal, refusal_number, Answer, Accepted, Batch, Advanced, Finished, Committed, Read, Planned, Refused, number}
+use Rattle.rules.specs.Answers.{Answer, Accepted, Batch, Advanced, Finished, Committed, Read, Planned, Refused, number}
 use Rattle.rules.specs.Build.{build}
 use Rattle.rules.specs.Calls.{Call}
 use Rattle.rules.specs.History

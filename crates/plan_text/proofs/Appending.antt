@@ -1,11 +1,11 @@
 -- Text behind the first bytes of a lent slice: copied there, or without room; one text behind another; and what that makes of a listing.
 use mathlib.Core.Path.{◌≡◌, refl, sym, ap, ◌∙◌}
 use mathlib.Core.Logic.{⊎_elim}
-use mathlib.Core.List.{List, [], ◌∷◌, ◌++◌, append-nil, append_assoc}
+use mathlib.Core.List.{List, [], ◌++◌, append-nil, append_assoc}
 use Prim.Native.Nat.{ℕ, ◌+◌, ◌-◌, ◌≤◌, ◌<◌}
 use native.Mathlib.Omega.{arith}
 use lib.ListN.{length, take, drop, length-append}
-use lib.Seq.{take_all, take-length, take_at, take-take, length-take-le, take-append-le}
+use lib.Seq.{take_all, take-length, take_at, take-take, length-take-le}
 use borrow.Rule.Slice.PartMut.{mid_of, put_mid, same_len_mid}
 use Rattle.types.proofs.Halves.{lt_or_ge}
 use Rattle.records.proofs.Moved.{tail_back}

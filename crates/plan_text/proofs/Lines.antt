@@ -7,7 +7,7 @@ use lib.ListN.{length, take, drop, set, length-set, length-drop, drop_of_length-
 use lib.Seq.{take_all}
 use Rattle.rules.specs.State.{Event}
 use Rattle.types.specs.declared.SimTime.{SimTime}
-use Rattle.types.specs.Value.{halves, ticks_of}
+use Rattle.types.specs.Value.{ticks_of}
 use Rattle.records.specs.declared.Record.{Record}
 use Rattle.records.specs.Records.{event_of, record_in, event_at, events_of}
 use Rattle.words.specs.Words.{tab}

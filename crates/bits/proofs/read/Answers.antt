@@ -2,9 +2,6 @@ use Rattle.bits.proofs.read.Goals as goal
 -- `bits::read` meets its contract.
 use native.Mathlib.Omega.{arith}
 use Rattle.bits.proofs.Words.{two, two_fits}
-use borrow.Author.Rules.{rules}
-use Rattle.bits.proofs.read.Statement.{statement}
-use Rattle.bits.proofs.read.Tie as tie
 
 pub overflow_add-result : goal.overflow_add-result
 overflow_add-result c =

@@ -7,13 +7,10 @@ use native.Mathlib.Omega.{arith}
 use mathlib.Core.Bool.{Bool}
 use mathlib.Core.List.{List}
 use lib.ListN.{length, take, drop, length-take}
-use borrow.Author.Rules.{rules}
 use Rattle.bits.specs.Bits.{value_of}
 use Rattle.bits.specs.Bytes.{stream}
 use Rattle.bits.proofs.Streams.{value_more}
 use Rattle.bits.proofs.Room.{room}
-use Rattle.bits.proofs.read_bytes.Statement.{statement}
-use Rattle.bits.proofs.read_bytes.Tie as tie
 
 pub loop-p-init : goal.loop-p-init
 unfolding value_of

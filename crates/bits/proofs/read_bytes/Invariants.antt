@@ -1,3 +1,6 @@
+use Rattle.std.proofs.Common.{◌≡◌, ◌-◌, ◌≤◌, take, drop}
+use Rattle.bits.specs.Bits.{value_of}
+use Rattle.bits.specs.Bytes.{stream}
 use Rattle.bits.proofs.read_bytes.Given as goal
 
 abbrev pub invariant-loop-p : goal.invariant-loop-p

@@ -2,9 +2,6 @@ use Rattle.bits.proofs.read_half.Goals as goal
 -- `bits::read_half` meets its contract.
 use native.Mathlib.Omega.{arith}
 use Rattle.bits.proofs.Words.{within, no_bits}
-use borrow.Author.Rules.{rules}
-use Rattle.bits.proofs.read_half.Statement.{statement}
-use Rattle.bits.proofs.read_half.Tie as tie
 
 pub returns-then-w-eq0 : goal.returns-then-w-eq0
 returns-then-w-eq0 c =

@@ -5,9 +5,6 @@ use Rattle.bits.specs.Bytes.{stream}
 use Rattle.bits.proofs.Streams.{length_stream}
 use Rattle.plan_file.proofs.Placing.{whole_of, ends_of}
 use Rattle.plan_file.proofs.Numbers.{too_long, too_short, left_over, set_padding, passes}
-use borrow.Author.Rules.{rules}
-use Rattle.plan_file.proofs.check_file.Statement.{statement}
-use Rattle.plan_file.proofs.check_file.Tie as tie
 
 pub returns-then-s-gt16384 : goal.returns-then-s-gt16384
 returns-then-s-gt16384 c = too_long _ _ c.if-s-gt16384.true c.refused.ensures
@@ -15,30 +12,30 @@ returns-then-s-gt16384 c = too_long _ _ c.if-s-gt16384.true c.refused.ensures
 pub returns-in_default : goal.returns-in_default
 returns-in_default c =
     let s = c.args.s.now in
-    too_short s _ (omega arith) (ends_of (stream s) _ c.find_lists.ensures c.enum_told-1.given.1) c.refused-in_default.ensures
+    too_short s _ (omega arith) (ends_of (stream s) _ c.find_lists.ensures c.in_default.is) c.refused-in_default.ensures
 
 pub overflow_sub-left : goal.overflow_sub-left
 overflow_sub-left c =
     let s = c.args.s.now in
-    rw length_stream at (whole_of (stream s) _ c.find_lists.ensures _ _ c.parts-1.given.1).inside
+    rw length_stream at (whole_of (stream s) _ c.find_lists.ensures _ _ c.in-Whole.is).inside
 
 pub returns-then-left-ge8 : goal.returns-then-left-ge8
 returns-then-left-ge8 c =
     let s = c.args.s.now in
-    left_over s _ (omega arith) (whole_of (stream s) _ c.find_lists.ensures _ _ c.parts-1.given.1) c.if-left-ge8.true c.refused-then-left-ge8.ensures
+    left_over s _ (omega arith) (whole_of (stream s) _ c.find_lists.ensures _ _ c.in-Whole.is) c.if-left-ge8.true c.refused-then-left-ge8.ensures
 
 pub read-requires : goal.read-requires
 read-requires c =
     let s = c.args.s.now in
-    let h = rw length_stream at (whole_of (stream s) _ c.find_lists.ensures _ _ c.parts-1.given.1).inside in
+    let h = rw length_stream at (whole_of (stream s) _ c.find_lists.ensures _ _ c.in-Whole.is).inside in
     omega arith
 
 pub returns-then-read-ne0 : goal.returns-then-read-ne0
 returns-then-read-ne0 c =
     let s = c.args.s.now in
-    set_padding s _ (omega arith) (whole_of (stream s) _ c.find_lists.ensures _ _ c.parts-1.given.1) c.if-left-ge8.false _ c.read.ensures c.if-read-ne0.true c.refused-then-read-ne0.ensures
+    set_padding s _ (omega arith) (whole_of (stream s) _ c.find_lists.ensures _ _ c.in-Whole.is) c.if-left-ge8.false _ c.read.ensures c.if-read-ne0.true c.refused-then-read-ne0.ensures
 
 pub returns : goal.returns
 returns c =
     let s = c.args.s.now in
-    passes s c.parts-1.given.0.0 (omega arith) (whole_of (stream s) _ c.find_lists.ensures _ _ c.parts-1.given.1) c.if-left-ge8.false _ c.read.ensures c.if-read-ne0.false
+    passes s c.in-Whole.parts (omega arith) (whole_of (stream s) _ c.find_lists.ensures _ _ c.in-Whole.is) c.if-left-ge8.false _ c.read.ensures c.if-read-ne0.false

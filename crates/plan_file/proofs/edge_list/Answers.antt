@@ -9,9 +9,6 @@ use Rattle.bits.specs.Bytes.{stream}
 use Rattle.bits.proofs.Streams.{length_stream}
 use Rattle.plan_file.specs.Grammar.{edge}
 use Rattle.plan_file.proofs.Steps.{list_short, list_cut, list_on}
-use borrow.Author.Rules.{rules}
-use Rattle.plan_file.proofs.edge_list.Statement.{statement}
-use Rattle.plan_file.proofs.edge_list.Tie as tie
 
 pub returns-then-s-at-lt10 : goal.returns-then-s-at-lt10
 returns-then-s-at-lt10 c =
@@ -27,9 +24,9 @@ overflow_mul-n c =
 pub returns-in_default : goal.returns-in_default
 returns-in_default c =
     let a = c.args in
-    list_cut edge (stream a.s.now) a.at (rw length_stream (omega arith)) (rw length_stream (omega arith)) _ c.read-n.ensures (rest_edges _ _) c.skip.ensures c.enum_told-1.given.1
+    list_cut edge (stream a.s.now) a.at (rw length_stream (omega arith)) (rw length_stream (omega arith)) _ c.read-n.ensures (rest_edges _ _) c.skip.ensures c.in_default.is
 
 pub returns : goal.returns
 returns c =
     let a = c.args in
-    list_on edge (stream a.s.now) a.at (rw length_stream (omega arith)) (rw length_stream (omega arith)) _ c.read-n.ensures (rest_edges _ _) c.skip.ensures _ c.next-1.given.1
+    list_on edge (stream a.s.now) a.at (rw length_stream (omega arith)) (rw length_stream (omega arith)) _ c.read-n.ensures (rest_edges _ _) c.skip.ensures _ c.in-At.is

@@ -6,9 +6,6 @@ use Rattle.bits.specs.Bytes.{stream}
 use Rattle.bits.proofs.Streams.{length_stream}
 use Rattle.plan_file.specs.Grammar.{reply}
 use Rattle.plan_file.proofs.Steps.{list_short, list_cut, list_on}
-use borrow.Author.Rules.{rules}
-use Rattle.plan_file.proofs.reply_list.Statement.{statement}
-use Rattle.plan_file.proofs.reply_list.Tie as tie
 
 pub returns-then-s-at-lt10 : goal.returns-then-s-at-lt10
 returns-then-s-at-lt10 c =
@@ -18,9 +15,9 @@ returns-then-s-at-lt10 c =
 pub returns-in_default : goal.returns-in_default
 returns-in_default c =
     let a = c.args in
-    list_cut reply (stream a.s.now) a.at (rw length_stream (omega arith)) (rw length_stream (omega arith)) _ c.read-n.ensures (refl) c.skip_replies.ensures c.enum_told-1.given.1
+    list_cut reply (stream a.s.now) a.at (rw length_stream (omega arith)) (rw length_stream (omega arith)) _ c.read-n.ensures (refl) c.skip_replies.ensures c.in_default.is
 
 pub returns : goal.returns
 returns c =
     let a = c.args in
-    list_on reply (stream a.s.now) a.at (rw length_stream (omega arith)) (rw length_stream (omega arith)) _ c.read-n.ensures (refl) c.skip_replies.ensures _ c.next-1.given.1
+    list_on reply (stream a.s.now) a.at (rw length_stream (omega arith)) (rw length_stream (omega arith)) _ c.read-n.ensures (refl) c.skip_replies.ensures _ c.in-At.is

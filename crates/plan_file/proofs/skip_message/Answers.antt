@@ -8,9 +8,6 @@ use Rattle.bits.proofs.Fields.{value_take}
 use Rattle.bits.proofs.Streams.{length_stream}
 use Rattle.plan_file.proofs.Steps.{lead_short, lead_on}
 use Rattle.plan_file.proofs.Rests.{rest_message}
-use borrow.Author.Rules.{rules}
-use Rattle.plan_file.proofs.skip_message.Statement.{statement}
-use Rattle.plan_file.proofs.skip_message.Tie as tie
 
 pub returns-then-s-at-lt145 : goal.returns-then-s-at-lt145
 returns-then-s-at-lt145 c =

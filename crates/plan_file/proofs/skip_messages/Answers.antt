@@ -1,18 +1,10 @@
 use Rattle.plan_file.proofs.skip_messages.Goals as goal
 -- `plan_file::skip_messages` meets its contract.
-use Prim.Native.Nat.{◌*◌, ◌≤◌}
-use mathlib.Core.Path.{◌≡◌, refl}
+use mathlib.Core.Path.{refl}
 use native.Mathlib.Omega.{arith}
-use lib.ListN.{length, drop}
-use borrow.Author.Rules.{rules}
-use Rattle.bits.specs.Bytes.{stream}
 use Rattle.bits.proofs.Streams.{length_stream}
-use Rattle.plan_file.specs.Format.{gets}
-use Rattle.plan_file.specs.Walked.{rest}
 use Rattle.plan_file.specs.Grammar.{message}
 use Rattle.plan_file.proofs.Steps.{walk_in, many_short, many_on, many_end}
-use Rattle.plan_file.proofs.skip_messages.Statement.{statement}
-use Rattle.plan_file.proofs.skip_messages.Tie as tie
 
 pub loop-left-init : goal.loop-left-init
 loop-left-init c = (omega arith, refl)
@@ -20,14 +12,14 @@ loop-left-init c = (omega arith, refl)
 pub returns-in_default : goal.returns-in_default
 returns-in_default c =
     let l = c.loop-left in
-    many_short message _ _ l.left l.p l.invariant.1 (omega arith) c.skip_message.ensures c.enum_told-1.given.1
+    many_short message _ _ l.left l.p l.invariant.1 (omega arith) c.skip_message.ensures c.in_default.is
 
 pub loop-left-preserved : goal.loop-left-preserved
 loop-left-preserved c =
     let l = c.loop-left in
     let w = c.skip_message.ensures in
-    let q = c.q-1.given in
-    (rw length_stream at (walk_in w _ q.1), many_on message _ _ l.left l.p l.invariant.1 (omega arith) w _ q.1)
+    let q = c.in-At.is in
+    (rw length_stream at (walk_in w _ q), many_on message _ _ l.left l.p l.invariant.1 (omega arith) w _ q)
 
 pub returns : goal.returns
 returns c =

@@ -1,3 +1,8 @@
+use Rattle.std.proofs.Common.{◌≡◌, ◌*◌, ◌≤◌, length, drop}
+use Rattle.bits.specs.Bytes.{stream}
+use Rattle.plan_file.specs.Format.{gets}
+use Rattle.plan_file.specs.Walked.{rest}
+use Rattle.plan_file.specs.Grammar.{message}
 use Rattle.plan_file.proofs.skip_messages.Given as goal
 
 abbrev pub invariant-loop-left : goal.invariant-loop-left

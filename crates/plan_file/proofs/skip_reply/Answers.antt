@@ -5,9 +5,6 @@ use Rattle.bits.specs.Bytes.{stream}
 use Rattle.bits.proofs.Streams.{length_stream}
 use Rattle.plan_file.proofs.Steps.{lead_short, lead_on}
 use Rattle.plan_file.proofs.Rests.{rest_reply}
-use borrow.Author.Rules.{rules}
-use Rattle.plan_file.proofs.skip_reply.Statement.{statement}
-use Rattle.plan_file.proofs.skip_reply.Tie as tie
 
 pub returns-then-s-at-lt16 : goal.returns-then-s-at-lt16
 returns-then-s-at-lt16 c =

@@ -1,4 +1,3 @@
-use borrow.Author.Rules.{rules}
 use native.Mathlib.Omega.{arith}
 use Rattle.types.proofs.Owned.{whole_time}
 use Rattle.plan_limit.proofs.Dividing.{in_pieces}

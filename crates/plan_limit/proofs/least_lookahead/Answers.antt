@@ -1,12 +1,9 @@
-use borrow.Author.Rules.{rules}
 use native.Mathlib.Omega.{arith}
-use mathlib.Core.Logic.{⊎_elim}
-use mathlib.Core.Path.{◌≡◌, sym, ◌∙◌}
-use Prim.Native.Nat.{◌-◌, ◌≤◌}
+use mathlib.Core.Path.{sym, ◌∙◌}
 use Rattle.types.specs.Value.{ticks_of}
-use Rattle.words.specs.Words.{tick_of}
-use Rattle.plan_limit.proofs.Leasts.{least_from, no_edge, some_edge, least_first, least_new, least_kept, least_end}
+use Rattle.plan_limit.proofs.Leasts.{no_edge, some_edge, least_first, least_new, least_kept, least_end}
 use Rattle.plan_limit.proofs.least_lookahead.Goals as goal
+use Rattle.plan_limit.proofs.least_lookahead.Goals.{then-lt, else-lt}
 
 pub returns-then-count-eq0 : goal.returns-then-count-eq0
 returns-then-count-eq0 c = no_edge _ _ _ (omega arith)
@@ -19,10 +16,10 @@ loop-i-preserved c =
     let l = c.loop-i in
     let t = c.tick_in-next in (
       omega arith,
-      ⊎_elim
-          (λ w. rw w.1 (least_new _ _ (ticks_of l.least) l.i _ _ (omega arith) t.ensures _ c.lt.ensures l.invariant.1 w.0.taken))
-          (λ w. rw w.1 (least_kept _ _ (ticks_of l.least) l.i _ _ (omega arith) t.ensures _ c.lt.ensures l.invariant.1 w.0.left))
-          c.if-lt.branch,
+      elim c.if-lt.branch [
+        | then-lt w ↦ rw w.least-is (least_new _ _ (ticks_of l.least) l.i _ _ (omega arith) t.ensures _ c.lt.ensures l.invariant.1 w.if-lt.true)
+        | else-lt w ↦ rw w.least-is (least_kept _ _ (ticks_of l.least) l.i _ _ (omega arith) t.ensures _ c.lt.ensures l.invariant.1 w.if-lt.false)
+      ],
     )
 
 pub returns : goal.returns

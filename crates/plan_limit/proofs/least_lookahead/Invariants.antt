@@ -1,11 +1,8 @@
-use borrow.Author.Rules.{rules}
-use native.Mathlib.Omega.{arith}
-use mathlib.Core.Logic.{⊎_elim}
-use mathlib.Core.Path.{◌≡◌, sym, ◌∙◌}
+use mathlib.Core.Path.{◌≡◌}
 use Prim.Native.Nat.{◌-◌, ◌≤◌}
 use Rattle.types.specs.Value.{ticks_of}
 use Rattle.words.specs.Words.{tick_of}
-use Rattle.plan_limit.proofs.Leasts.{least_from, no_edge, some_edge, least_first, least_new, least_kept, least_end}
+use Rattle.plan_limit.proofs.Leasts.{least_from}
 use Rattle.plan_limit.proofs.least_lookahead.Given as goal
 
 abbrev pub invariant-loop-i : goal.invariant-loop-i

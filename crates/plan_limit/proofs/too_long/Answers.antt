@@ -1,4 +1,3 @@
-use borrow.Author.Rules.{rules}
 use Rattle.plan_limit.proofs.Dividing.{no_division}
 use mathlib.Core.Path.{ap, ◌∙◌}
 use lib.Dec.{ltb}

@@ -1,9 +1,6 @@
 use Rattle.plan_reader.proofs.emission_to.Goals as goal
 -- `plan_reader::emission_to` meets its contract.
 use Rattle.plan_reader.proofs.Emissions.{written}
-use borrow.Author.Rules.{rules}
-use Rattle.plan_reader.proofs.emission_to.Statement.{statement}
-use Rattle.plan_reader.proofs.emission_to.Tie as tie
 
 pub returns : goal.returns
 returns c =

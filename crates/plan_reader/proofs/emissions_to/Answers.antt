@@ -1,11 +1,8 @@
 use Rattle.plan_reader.proofs.emissions_to.Goals as goal
 -- `plan_reader::emissions_to` meets its contract.
-use Prim.Native.Nat.{◌-◌, ◌≤◌}
 use native.Mathlib.Omega.{arith}
 use Rattle.bits.specs.Bytes.{stream}
-use Rattle.plan_reader.proofs.Replies.{Progress, progress_start, progress_more, progress_end, can_read, can_hold, can_go_on}
-use Rattle.plan_reader.proofs.emissions_to.Statement.{statement}
-use Rattle.plan_reader.proofs.emissions_to.Tie as tie
+use Rattle.plan_reader.proofs.Replies.{progress_start, progress_more, progress_end, can_read, can_hold, can_go_on}
 
 pub read-n-requires : goal.read-n-requires
 read-n-requires c =

@@ -1,3 +1,6 @@
+use Prim.Native.Nat.{◌-◌, ◌≤◌}
+use Rattle.bits.specs.Bytes.{stream}
+use Rattle.plan_reader.proofs.Replies.{Progress}
 use Rattle.plan_reader.proofs.emissions_to.Given as goal
 
 abbrev pub invariant-loop-i : goal.invariant-loop-i

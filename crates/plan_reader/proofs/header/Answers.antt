@@ -1,9 +1,6 @@
 use Rattle.plan_reader.proofs.header.Goals as goal
 -- `plan_reader::header` meets its contract.
 use Rattle.plan_reader.proofs.Headers.{header_read}
-use borrow.Author.Rules.{rules}
-use Rattle.plan_reader.proofs.header.Statement.{statement}
-use Rattle.plan_reader.proofs.header.Tie as tie
 
 pub returns : goal.returns
 returns c = header_read _ _ c.read.ensures c.duration_at.ensures c.tick_at.ensures c.read-2.ensures

@@ -5,9 +5,6 @@ use Rattle.bits.specs.Bytes.{stream}
 use mathlib.Core.Path.{◌∙◌, ap}
 use Rattle.types.specs.Value.{id_of_word}
 use Rattle.plan_reader.proofs.Values.{id_of_field}
-use borrow.Author.Rules.{rules}
-use Rattle.plan_reader.proofs.id_at.Statement.{statement}
-use Rattle.plan_reader.proofs.id_at.Tie as tie
 
 pub returns : goal.returns
 returns c =

@@ -4,8 +4,6 @@ use native.Mathlib.Omega.{arith}
 use Rattle.bits.specs.Bytes.{stream}
 use Rattle.bits.proofs.Streams.{length_stream}
 use Rattle.plan_reader.proofs.Messages.{message_room, fields_room, message_read}
-use Rattle.plan_reader.proofs.message_at.Statement.{statement}
-use Rattle.plan_reader.proofs.message_at.Tie as tie
 
 pub overflow_add-at : goal.overflow_add-at
 overflow_add-at c = omega (arith, fields_room c.args.s.now c.args.at c.requires.1)

@@ -4,9 +4,6 @@ use native.Mathlib.Omega.{arith}
 use Rattle.bits.specs.Bytes.{stream}
 use Rattle.bits.proofs.Streams.{length_stream}
 use Rattle.plan_reader.proofs.Values.{payload_read}
-use borrow.Author.Rules.{rules}
-use Rattle.plan_reader.proofs.payload_at.Statement.{statement}
-use Rattle.plan_reader.proofs.payload_at.Tie as tie
 
 pub returns : goal.returns
 returns c =

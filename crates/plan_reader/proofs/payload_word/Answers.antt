@@ -4,9 +4,6 @@ use native.Mathlib.Omega.{arith}
 use lib.ListN.{drop}
 use Rattle.bits.specs.Bytes.{stream}
 use Rattle.plan_reader.proofs.Values.{word_is, no_bytes}
-use borrow.Author.Rules.{rules}
-use Rattle.plan_reader.proofs.payload_word.Statement.{statement}
-use Rattle.plan_reader.proofs.payload_word.Tie as tie
 
 pub returns-then-bytes-eq0 : goal.returns-then-bytes-eq0
 returns-then-bytes-eq0 c =

@@ -3,9 +3,6 @@ use Rattle.plan_reader.proofs.put_emission.Goals as goal
 use native.Mathlib.Omega.{arith}
 use lib.ListN.{length-set}
 use Rattle.plan_reader.proofs.Emissions.{ids_fit, eight_puts}
-use borrow.Author.Rules.{rules}
-use Rattle.plan_reader.proofs.put_emission.Statement.{statement}
-use Rattle.plan_reader.proofs.put_emission.Tie as tie
 
 pub bounds-w-at-2 : goal.bounds-w-at-2
 bounds-w-at-2 c = simp length-set (omega arith)

@@ -5,9 +5,6 @@ use native.Mathlib.Omega.{arith}
 use Rattle.bits.specs.Bytes.{stream}
 use Rattle.bits.proofs.Streams.{length_stream}
 use Rattle.plan_reader.proofs.Values.{halves_of}
-use borrow.Author.Rules.{rules}
-use Rattle.plan_reader.proofs.tick_at.Statement.{statement}
-use Rattle.plan_reader.proofs.tick_at.Tie as tie
 
 pub returns : goal.returns
 returns c =

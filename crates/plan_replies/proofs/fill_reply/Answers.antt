@@ -1,15 +1,9 @@
 use Rattle.plan_replies.proofs.fill_reply.Goals as goal
 -- `plan_replies::fill_reply` meets its contract.
-use Prim.Native.Nat.{◌≤◌, ◌-◌}
-use mathlib.Core.Path.{◌≡◌, refl}
+use mathlib.Core.Path.{refl}
 use native.Mathlib.Omega.{arith}
-use lib.ListN.{length}
 use borrow.Author.Rules.{rules}
-use Rattle.records.specs.Records.{events_of}
-use Rattle.plan_replies.specs.Fills.{Fills}
 use Rattle.plan_replies.proofs.Filling.{fills_none, fills_on, still_room, owner, all_filled}
-use Rattle.plan_replies.proofs.fill_reply.Statement.{statement}
-use Rattle.plan_replies.proofs.fill_reply.Tie as tie
 
 -- src/lib.rt:84:5
 pub loop-i-init : goal.loop-i-init
@@ -63,4 +57,5 @@ pub returns : goal.returns
 returns c =
     let i = c.loop-i.invariant in
     let pre = c.requires in
-    all_filled _ _ _ _ _ _ _ i.3 (omega (arith, i.0, c.loop-i-test.false)) _ i.2 pre.0
+    let f = all_filled _ _ _ _ _ _ _ i.3 (omega (arith, i.0, c.loop-i-test.false)) _ i.2 pre.0 in
+    record { fills = f.0; result_in_bounds = f.1 }

@@ -1,3 +1,8 @@
+use Prim.Native.Nat.{◌-◌, ◌≤◌}
+use Rattle.plan_replies.specs.Fills.{Fills}
+use Rattle.records.specs.Records.{events_of}
+use lib.ListN.{length}
+use mathlib.Core.Path.{◌≡◌}
 use Rattle.plan_replies.proofs.fill_reply.Given as goal
 
 abbrev pub invariant-loop-i : goal.invariant-loop-i

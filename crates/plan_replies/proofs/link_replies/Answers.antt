@@ -1,17 +1,9 @@
 use Rattle.plan_replies.proofs.link_replies.Goals as goal
 -- `plan_replies::link_replies` meets its contract.
-use Prim.Native.Nat.{◌≤◌}
-use mathlib.Core.Path.{◌≡◌, refl}
-use mathlib.Core.List.{List}
+use mathlib.Core.Path.{refl}
 use native.Mathlib.Omega.{arith}
-use lib.ListN.{length, drop}
 use borrow.Author.Rules.{rules}
-use Rattle.bits.specs.Bytes.{stream}
-use Rattle.plan_file.specs.Plan.{Reply}
-use Rattle.plan_replies.specs.Table.{Table}
 use Rattle.plan_replies.proofs.Linking.{can_link_one, linked_one, all_linked}
-use Rattle.plan_replies.proofs.link_replies.Statement.{statement}
-use Rattle.plan_replies.proofs.link_replies.Tie as tie
 
 -- src/lib.rt:48:5
 pub loop-k-init : goal.loop-k-init

@@ -1,3 +1,10 @@
+use Prim.Native.Nat.{◌≤◌}
+use Rattle.bits.specs.Bytes.{stream}
+use Rattle.plan_file.specs.Plan.{Reply}
+use Rattle.plan_replies.specs.Table.{Table}
+use lib.ListN.{drop, length}
+use mathlib.Core.List.{List}
+use mathlib.Core.Path.{◌≡◌}
 use Rattle.plan_replies.proofs.link_replies.Given as goal
 
 abbrev pub invariant-loop-k : goal.invariant-loop-k

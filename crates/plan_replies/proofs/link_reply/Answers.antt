@@ -2,10 +2,7 @@ use Rattle.plan_replies.proofs.link_reply.Goals as goal
 -- `plan_replies::link_reply` meets its contract.
 use native.Mathlib.Omega.{arith}
 use lib.ListN.{length-set}
-use borrow.Author.Rules.{rules}
 use Rattle.plan_replies.proofs.Linking.{words_there, linked}
-use Rattle.plan_replies.proofs.link_reply.Statement.{statement}
-use Rattle.plan_replies.proofs.link_reply.Tie as tie
 
 -- src/lib.rt:37:19
 pub read-process-requires : goal.read-process-requires

@@ -1,18 +1,10 @@
 use Rattle.plan_replies.proofs.note_places.Goals as goal
 -- `plan_replies::note_places` meets its contract.
-use Prim.Native.Nat.{◌≤◌, ◌-◌, ◌*◌}
 use mathlib.Core.Path.{◌≡◌, refl}
-use mathlib.Core.List.{List}
 use native.Mathlib.Omega.{arith}
 use lib.ListN.{length, length-set}
-use borrow.Author.Rules.{rules}
-use Rattle.bits.specs.Bytes.{stream}
 use Rattle.bits.proofs.Streams.{length_stream}
-use Rattle.plan_file.specs.Plan.{Reply}
-use Rattle.plan_replies.specs.Finds.{RepliesAt}
-use Rattle.plan_replies.proofs.Noting.{Noting, noting_start, noting_more, noting_short, noted_as}
-use Rattle.plan_replies.proofs.note_places.Statement.{statement}
-use Rattle.plan_replies.proofs.note_places.Tie as tie
+use Rattle.plan_replies.proofs.Noting.{noting_start, noting_more, noting_short, noted_as}
 
 -- src/lib.rt:16:5
 pub loop-k-init : goal.loop-k-init
@@ -59,7 +51,7 @@ pub returns-in_default : goal.returns-in_default
 returns-in_default c =
     let pre = c.requires in
     let n = c.loop-k.invariant.2 pre.replies pre.there in
-    absurd (noting_short _ _ _ _ _ n (omega (arith, pre.there.counted, c.loop-k-test.true)) _ c.skip_reply.ensures c.enum_told-1.given.1)
+    absurd (noting_short _ _ _ _ _ n (omega (arith, pre.there.counted, c.loop-k-test.true)) _ c.skip_reply.ensures c.in_default.is)
 
 -- src/lib.rt:22:9
 pub overflow_add-k : goal.overflow_add-k
@@ -76,7 +68,7 @@ pub loop-k-preserved : goal.loop-k-preserved
 loop-k-preserved c =
     let i = c.loop-k.invariant in
     let w = c.skip_reply.ensures in
-    (omega (arith, c.loop-k-test.true), simp length-set i.1, λ rs g. noting_more _ rs _ _ _ (i.2 rs g) (omega (arith, g.counted, c.loop-k-test.true)) _ w _ c.q-1.given.1)
+    (omega (arith, c.loop-k-test.true), simp length-set i.1, λ rs g. noting_more _ rs _ _ _ (i.2 rs g) (omega (arith, g.counted, c.loop-k-test.true)) _ w _ c.in-At.is)
 
 -- src/lib.rt:10:1
 pub shape_of-table : goal.shape_of-table

@@ -1,3 +1,11 @@
+use Prim.Native.Nat.{◌-◌, ◌≤◌}
+use Rattle.bits.specs.Bytes.{stream}
+use Rattle.plan_file.specs.Plan.{Reply}
+use Rattle.plan_replies.proofs.Noting.{Noting}
+use Rattle.plan_replies.specs.Finds.{RepliesAt}
+use lib.ListN.{length}
+use mathlib.Core.List.{List}
+use mathlib.Core.Path.{◌≡◌}
 use Rattle.plan_replies.proofs.note_places.Given as goal
 
 abbrev pub invariant-loop-k : goal.invariant-loop-k

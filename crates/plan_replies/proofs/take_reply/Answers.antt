@@ -2,9 +2,6 @@ use Rattle.plan_replies.proofs.take_reply.Goals as goal
 -- `plan_replies::take_reply` meets its contract.
 use native.Mathlib.Omega.{arith}
 use mathlib.Core.Path.{refl, ◌∙◌}
-use borrow.Author.Rules.{rules}
-use Rattle.plan_replies.proofs.take_reply.Statement.{statement}
-use Rattle.plan_replies.proofs.take_reply.Tie as tie
 use Rattle.types.proofs.Ids.{id_of_small}
 use Rattle.plan_replies.proofs.Taking.{takes_nothing, link_inside, place_inside, can_write, takes_reply}
 

@@ -1,9 +1,5 @@
 use native.Mathlib.Omega.{arith}
-use mathlib.Core.Path.{◌≡◌, refl, sym, ◌∙◌}
-use Prim.Native.Nat.{◌-◌, ◌≤◌}
-use lib.Dec.{leb}
-use lib.ListN.{length, drop}
-use Rattle.rules.specs.Base.{rising}
+use mathlib.Core.Path.{refl, sym, ◌∙◌}
 use Rattle.plan_rows.proofs.Filling.{falls_here, falls_later, falls_nowhere}
 use Rattle.plan_rows.proofs.never_fall.Goals as goal
 

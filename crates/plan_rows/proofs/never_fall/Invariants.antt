@@ -1,10 +1,8 @@
-use native.Mathlib.Omega.{arith}
-use mathlib.Core.Path.{◌≡◌, refl, sym, ◌∙◌}
+use mathlib.Core.Path.{◌≡◌}
 use Prim.Native.Nat.{◌-◌, ◌≤◌}
 use lib.Dec.{leb}
 use lib.ListN.{length, drop}
 use Rattle.rules.specs.Base.{rising}
-use Rattle.plan_rows.proofs.Filling.{falls_here, falls_later, falls_nowhere}
 use Rattle.plan_rows.proofs.never_fall.Given as goal
 
 abbrev pub invariant-loop-i : goal.invariant-loop-i

@@ -1,8 +1,6 @@
 use native.Mathlib.Omega.{arith}
 use mathlib.Core.Path.{◌≡◌, refl, sym, ◌∙◌}
-use Prim.Native.Nat.{◌-◌, ◌≤◌}
-use lib.ListN.{length, length-set, take}
-use Rattle.rules.specs.Base.{up_to}
+use lib.ListN.{length-set}
 use Rattle.plan_rows.proofs.Filling.{one_behind, up_more, up_none}
 use Rattle.plan_rows.proofs.put_ids.Goals as goal
 

@@ -1,9 +1,7 @@
-use native.Mathlib.Omega.{arith}
-use mathlib.Core.Path.{◌≡◌, refl, sym, ◌∙◌}
+use mathlib.Core.Path.{◌≡◌}
 use Prim.Native.Nat.{◌-◌, ◌≤◌}
-use lib.ListN.{length, length-set, take}
+use lib.ListN.{length, take}
 use Rattle.rules.specs.Base.{up_to}
-use Rattle.plan_rows.proofs.Filling.{one_behind, up_more, up_none}
 use Rattle.plan_rows.proofs.put_ids.Given as goal
 
 abbrev pub invariant-loop-i : goal.invariant-loop-i

@@ -1,5 +1,4 @@
 use Rattle.plan_rows.proofs.Tables.{tallies_none, rows_made}
-use borrow.Author.Rules.{rules}
 use Rattle.plan_rows.proofs.put_rows.Goals as goal
 
 pub tally-requires : goal.tally-requires

@@ -1,9 +1,8 @@
 use native.Mathlib.Omega.{arith}
 use mathlib.Core.Path.{◌≡◌, refl}
-use Prim.Native.Nat.{◌-◌, ◌≤◌}
 use mathlib.Core.List.{[]}
-use lib.ListN.{length, length-set}
-use Rattle.plan_rows.proofs.Edges.{Reading, reading_none, small, reading_more, reading_end}
+use lib.ListN.{length-set}
+use Rattle.plan_rows.proofs.Edges.{reading_none, small, reading_more, reading_end}
 use Rattle.plan_rows.proofs.read_edges.Goals as goal
 
 pub loop-i-init : goal.loop-i-init

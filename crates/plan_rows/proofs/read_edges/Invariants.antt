@@ -1,9 +1,7 @@
-use native.Mathlib.Omega.{arith}
-use mathlib.Core.Path.{◌≡◌, refl}
+use mathlib.Core.Path.{◌≡◌}
 use Prim.Native.Nat.{◌-◌, ◌≤◌}
-use mathlib.Core.List.{[]}
-use lib.ListN.{length, length-set}
-use Rattle.plan_rows.proofs.Edges.{Reading, reading_none, small, reading_more, reading_end}
+use lib.ListN.{length}
+use Rattle.plan_rows.proofs.Edges.{Reading}
 use Rattle.plan_rows.proofs.read_edges.Given as goal
 
 abbrev pub invariant-loop-i : goal.invariant-loop-i

@@ -1,10 +1,8 @@
-use borrow.Author.Rules.{rules}
 use native.Mathlib.Omega.{arith}
 use mathlib.Core.Path.{◌≡◌, refl, ap, ◌∙◌}
-use Prim.Native.Nat.{◌-◌, ◌≤◌}
 use lib.ListN.{length}
 use Rattle.words.proofs.Ticks.{length_put}
-use Rattle.plan_rows.proofs.Stored.{Stored, stored_none, stored_more, stored_end}
+use Rattle.plan_rows.proofs.Stored.{stored_none, stored_more, stored_end}
 use Rattle.plan_rows.proofs.read_lookaheads.Goals as goal
 
 pub loop-i-init : goal.loop-i-init

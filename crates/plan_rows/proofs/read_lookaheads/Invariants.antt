@@ -1,10 +1,7 @@
-use borrow.Author.Rules.{rules}
-use native.Mathlib.Omega.{arith}
-use mathlib.Core.Path.{◌≡◌, refl, ap, ◌∙◌}
+use mathlib.Core.Path.{◌≡◌}
 use Prim.Native.Nat.{◌-◌, ◌≤◌}
 use lib.ListN.{length}
-use Rattle.words.proofs.Ticks.{length_put}
-use Rattle.plan_rows.proofs.Stored.{Stored, stored_none, stored_more, stored_end}
+use Rattle.plan_rows.proofs.Stored.{Stored}
 use Rattle.plan_rows.proofs.read_lookaheads.Given as goal
 
 abbrev pub invariant-loop-i : goal.invariant-loop-i

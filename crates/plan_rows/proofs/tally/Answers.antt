@@ -1,10 +1,6 @@
 use native.Mathlib.Omega.{arith}
-use mathlib.Core.Path.{◌≡◌, refl, sym, ◌∙◌}
-use Prim.Native.Nat.{◌-◌, ◌≤◌, ◌<◌}
-use lib.ListN.{length, take, get_or}
-use Rattle.plan_rows.specs.Rows.{Tallies}
+use mathlib.Core.Path.{refl, sym, ◌∙◌}
 use Rattle.plan_rows.proofs.Tables.{tally_few, tally_more, tally_end}
-use borrow.Author.Rules.{rules}
 use Rattle.plan_rows.proofs.tally.Goals as goal
 
 pub loop-i-init : goal.loop-i-init

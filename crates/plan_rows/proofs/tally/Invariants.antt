@@ -1,10 +1,6 @@
-use native.Mathlib.Omega.{arith}
-use mathlib.Core.Path.{◌≡◌, refl, sym, ◌∙◌}
-use Prim.Native.Nat.{◌-◌, ◌≤◌, ◌<◌}
-use lib.ListN.{length, take, get_or}
+use Prim.Native.Nat.{◌-◌, ◌≤◌}
+use lib.ListN.{length, take}
 use Rattle.plan_rows.specs.Rows.{Tallies}
-use Rattle.plan_rows.proofs.Tables.{tally_few, tally_more, tally_end}
-use borrow.Author.Rules.{rules}
 use Rattle.plan_rows.proofs.tally.Given as goal
 
 abbrev pub invariant-loop-i : goal.invariant-loop-i

@@ -1,7 +1,6 @@
 use native.Mathlib.Omega.{arith}
-use Prim.Native.Nat.{◌+◌, ◌-◌, ◌≤◌}
+use Prim.Native.Nat.{◌+◌, ◌≤◌}
 use mathlib.Core.Path.{◌≡◌, refl}
-use Rattle.plan_rows.specs.Rows.{table_rows, PutsRows}
 use Rattle.plan_rows.proofs.Tables.{rows_none, rows_more, rows_few}
 use Rattle.plan_rows.proofs.write_rows.Goals as goal
 

@@ -1,8 +1,5 @@
-use native.Mathlib.Omega.{arith}
-use Prim.Native.Nat.{◌+◌, ◌-◌, ◌≤◌}
-use mathlib.Core.Path.{◌≡◌, refl}
+use Prim.Native.Nat.{◌-◌, ◌≤◌}
 use Rattle.plan_rows.specs.Rows.{table_rows, PutsRows}
-use Rattle.plan_rows.proofs.Tables.{rows_none, rows_more, rows_few}
 use Rattle.plan_rows.proofs.write_rows.Given as goal
 
 abbrev pub invariant-loop-q : goal.invariant-loop-q

@@ -40,7 +40,7 @@ shape_of-pending-then-number-gt0 c =
 pub returns-then-number-gt0 : goal.returns-then-number-gt0
 returns-then-number-gt0 c =
     let i = c.loop-calls.invariant in
-    adding_refused _ _ _ _ _ _ _ i.1 (omega (arith, i.2, c.loop-calls-test.true)) _ c.message_at-read.ensures _ _ (search rules) c.add_initial_holds.ensures _ c.number_of_lem.ensures c.if-number-gt0.true
+    adding_refused _ _ _ _ _ _ _ i.1 (omega (arith, i.2, c.loop-calls-test.true)) _ c.message_at-read.ensures _ _ (search rules) c.add_initial-added.ensures _ c.number_of-number.ensures c.if-number-gt0.true
 
 -- src/lib.rt:35:5
 pub loop-calls-smaller : goal.loop-calls-smaller
@@ -50,8 +50,8 @@ loop-calls-smaller c = omega (arith, c.loop-calls-test.true)
 pub loop-calls-preserved : goal.loop-calls-preserved
 loop-calls-preserved c =
     let i = c.loop-calls.invariant in
-    let n : c.number_of_lem.result ≡ 0 = omega (arith, c.if-number-gt0.false) in
-    (search (i.0, rules), adding_more _ _ _ _ _ _ _ i.1 (omega (arith, i.2, c.loop-calls-test.true)) _ c.message_at-read.ensures _ _ (search rules) c.add_initial_holds.ensures _ c.number_of_lem.ensures n, i.2)
+    let n : c.number_of-number.result ≡ 0 = omega (arith, c.if-number-gt0.false) in
+    (search (i.0, rules), adding_more _ _ _ _ _ _ _ i.1 (omega (arith, i.2, c.loop-calls-test.true)) _ c.message_at-read.ensures _ _ (search rules) c.add_initial-added.ensures _ c.number_of-number.ensures n, i.2)
 
 -- src/lib.rt:22:1
 pub shape_of-pending : goal.shape_of-pending

@@ -1,3 +1,8 @@
+use Prim.Native.Nat.{◌-◌}
+use Rattle.plan_round.specs.Reached.{plan_of}
+use Rattle.plan_run.specs.Opens.{Adding}
+use lib.ListN.{length}
+use mathlib.Core.Path.{◌≡◌}
 use Rattle.plan_run.proofs.add_initials.Given as goal
 
 abbrev pub invariant-loop-calls : goal.invariant-loop-calls

@@ -13,4 +13,4 @@ returns-then-added-gt0 c = not_opened _ _ _ _ _ c.requires.0 c.if-added-gt0.true
 -- src/lib.rt:60:1
 pub returns : goal.returns
 returns c =
-    opened_run _ _ _ _ _ c.requires.0 (omega (arith, c.if-added-gt0.false)) _ _ c.requires.1 _ c.begin-begun.ensures _ c.number_of_lem.ensures
+    opened_run _ _ _ _ _ c.requires.0 (omega (arith, c.if-added-gt0.false)) _ _ c.requires.1 _ c.begin-begun.ensures _ c.number_of-number.ensures

@@ -21,4 +21,4 @@ run_turns-end-requires c =
 -- src/lib.rt:156:1
 pub returns : goal.returns
 returns c =
-    runs_built _ _ _ _ _ _ _ _ _ c.run_turns-end.ensures c.end_listing.ensures c.args.listing.now (search (c.run_turns-end.auto.edges.1.1.1.1.1.1, rules))
+    runs_built _ _ _ _ _ _ _ _ _ c.run_turns-end.ensures c.end_listing.ensures c.args.listing.now c.run_turns-end.auto.listing

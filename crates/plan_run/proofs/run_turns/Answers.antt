@@ -1,7 +1,7 @@
 use Rattle.plan_run.proofs.run_turns.Goals as goal
 -- `plan_run::run_turns` meets its contract.
 use Prim.Native.Nat.{◌-◌}
-use mathlib.Core.Path.{◌≡◌, refl}
+use mathlib.Core.Path.{◌≡◌, refl, ◌∙◌}
 use lib.ListN.{length}
 use borrow.Author.Rules.{rules}
 use Rattle.plan_rules.specs.Run.{enough}
@@ -30,7 +30,8 @@ loop-head-smaller c =
 pub loop-head-preserved : goal.loop-head-preserved
 loop-head-preserved c =
     let i = c.loop-head.invariant in
-    (c.take_turn-t.ensures.came, search (c.take_turn-t.auto, i.1, rules), search (c.take_turn-t.auto, i.2, rules), search (c.take_turn-t.auto, i.3, rules), search (c.take_turn-t.auto, i.4, rules), search (c.take_turn-t.auto.counters.1.1.1.1.1.1, i.5, rules), search (c.take_turn-t.auto.counters.1.1.1.1.1.1, i.6, rules), search (c.take_turn-t.auto.counters.1.1.1.1.1.1, i.7, rules))
+    let q = c.take_turn-t.auto in
+    (c.take_turn-t.ensures.came, q.edges ∙ i.1, q.pending ∙ i.2, q.processes ∙ i.3, q.batch ∙ i.4, q.table ∙ i.5, q.reply ∙ i.6, q.listing ∙ i.7)
 
 -- src/lib.rt:99:1
 pub shape_of-edges : goal.shape_of-edges

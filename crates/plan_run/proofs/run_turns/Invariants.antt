@@ -1,3 +1,9 @@
+use Prim.Native.Nat.{◌-◌}
+use Rattle.plan_round.specs.Reached.{plan_of}
+use Rattle.plan_round.specs.Turns.{Came}
+use Rattle.plan_rules.specs.Run.{enough}
+use lib.ListN.{length}
+use mathlib.Core.Path.{◌≡◌}
 use Rattle.plan_run.proofs.run_turns.Given as goal
 
 abbrev pub invariant-loop-head : goal.invariant-loop-head

@@ -1,6 +1,5 @@
 use native.Mathlib.Omega.{arith}
 use Rattle.plan_text.proofs.Appending.{append_full, append_copied}
-use borrow.Author.Rules.{rules}
 use Rattle.plan_text.proofs.append.Goals as goal
 
 pub returns-then-out-at : goal.returns-then-out-at
@@ -13,4 +12,4 @@ pub returns : goal.returns
 returns c =
     let e = c.args in
     let q = c.copy in
-    append_copied e.out.now e.at e.text.now q.new.1.0 q.result (omega arith) (omega arith) q.ensures.0 q.ensures.1 q.auto.1.0
+    append_copied e.out.now e.at e.text.now q.new.out q.result (omega arith) (omega arith) q.ensures.value q.ensures.out_after q.auto.out

@@ -1,6 +1,5 @@
 use native.Mathlib.Omega.{arith}
 use Rattle.plan_text.proofs.Finished.{finishes_fits, finishes_full}
-use borrow.Author.Rules.{rules}
 use Rattle.plan_text.proofs.finish.Goals as goal
 
 pub returns-then-at-out : goal.returns-then-at-out

@@ -1,7 +1,6 @@
 use native.Mathlib.Omega.{arith}
 use mathlib.Core.Path.{refl}
 use Rattle.plan_text.proofs.Digits.{nibble_low, nibble_high}
-use borrow.Author.Rules.{rules}
 use Rattle.plan_text.proofs.hex_digit.Goals as goal
 
 pub returns-then-d-lt10 : goal.returns-then-d-lt10

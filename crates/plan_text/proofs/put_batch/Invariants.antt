@@ -1,12 +1,7 @@
-use native.Mathlib.Omega.{arith}
 use Prim.Native.Nat.{◌≤◌, ◌-◌}
-use mathlib.Core.Path.{◌≡◌}
 use Rattle.records.specs.Records.{events_of}
 use Rattle.plan_rules.specs.Listing.{event_lines}
 use Rattle.plan_text.specs.Appends.{Appends}
-use Rattle.plan_text.proofs.Appending.{append_none}
-use Rattle.plan_text.proofs.Lines.{batch_more, batch_none}
-use borrow.Author.Rules.{rules}
 use Rattle.plan_text.proofs.put_batch.Given as goal
 
 abbrev pub invariant-loop-i : goal.invariant-loop-i

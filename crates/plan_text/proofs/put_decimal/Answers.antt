@@ -1,8 +1,7 @@
 use native.Mathlib.Omega.{arith}
-use Prim.Native.Nat.{◌≤◌}
-use mathlib.Core.Path.{◌≡◌, refl}
-use lib.ListN.{length, length-set}
-use Rattle.plan_text.proofs.Fronts.{Decimal, decimal_start, decimal_room, decimal_last, decimal_more, decimal_end}
+use mathlib.Core.Path.{refl}
+use lib.ListN.{length-set}
+use Rattle.plan_text.proofs.Fronts.{decimal_start, decimal_room, decimal_last, decimal_more, decimal_end}
 use Rattle.plan_text.proofs.put_decimal.Goals as goal
 
 pub loop-rest-init : goal.loop-rest-init
@@ -39,4 +38,5 @@ shape_of-line c = simp length-set c.loop-rest.invariant.1
 pub returns : goal.returns
 returns c =
     let l = c.loop-rest in
-    decimal_end _ _ _ _ _ _ (omega arith) (omega arith) l.invariant.2 (omega arith) (omega arith)
+    let d = decimal_end _ _ _ _ _ _ (omega arith) (omega arith) l.invariant.2 (omega arith) (omega arith) in
+    record { prepends = d.0; end_bound = d.1 }

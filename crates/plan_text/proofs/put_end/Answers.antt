@@ -14,7 +14,7 @@ returns c =
     let third = c.put_tick-third in
     let second = c.put_number-second in
     let first = c.put_word-first in
-    let z : length first.new.0 ≡ 100 = search rules in
-    append_line first.new.0 _ _ _ first.result 100 _ _ (omega arith)
-    (end_line_holds _ _ _ _ _ first.new.0 e.number (ticks_of e.gvt) e.rounds _ 100 fifth.result fourth.result third.result second.result first.result (omega arith) fifth.ensures.0 fourth.ensures.0 third.ensures.0 second.ensures.0 first.ensures)
+    let z : length first.new.line ≡ 100 = search rules in
+    append_line first.new.line _ _ _ first.result 100 _ _ (omega arith)
+    (end_line_holds _ _ _ _ _ first.new.line e.number (ticks_of e.gvt) e.rounds _ 100 fifth.result fourth.result third.result second.result first.result (omega arith) fifth.ensures.prepends fourth.ensures.prepends third.ensures.prepends second.ensures.prepends first.ensures)
     c.append.ensures

@@ -12,7 +12,7 @@ returns c =
     let third = c.put_number-third in
     let second = c.put_tick-second in
     let first = c.put_number-first in
-    let z : length first.new.0 ≡ 100 = search rules in
-    append_line first.new.0 _ _ _ first.result 100 _ _ (omega arith)
-    (event_line_holds _ _ _ first.new.0 e.process (ticks_of e.tick) e.source 100 third.result second.result first.result (omega arith) third.ensures.0 second.ensures.0 first.ensures.0)
+    let z : length first.new.line ≡ 100 = search rules in
+    append_line first.new.line _ _ _ first.result 100 _ _ (omega arith)
+    (event_line_holds _ _ _ first.new.line e.process (ticks_of e.tick) e.source 100 third.result second.result first.result (omega arith) third.ensures.prepends second.ensures.prepends first.ensures.prepends)
     c.append.ensures

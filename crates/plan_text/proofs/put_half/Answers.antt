@@ -1,7 +1,7 @@
 use native.Mathlib.Omega.{arith}
-use mathlib.Core.Path.{◌≡◌, refl}
-use lib.ListN.{length, length-set}
-use Rattle.plan_text.proofs.Fronts.{Hexadecimal, hexadecimal_start, hexadecimal_more, hexadecimal_end}
+use mathlib.Core.Path.{refl}
+use lib.ListN.{length-set}
+use Rattle.plan_text.proofs.Fronts.{hexadecimal_start, hexadecimal_more, hexadecimal_end}
 use Rattle.plan_text.proofs.put_half.Goals as goal
 
 pub loop-i-init : goal.loop-i-init

@@ -1,7 +1,6 @@
-use native.Mathlib.Omega.{arith}
-use mathlib.Core.Path.{◌≡◌, refl}
-use lib.ListN.{length, length-set}
-use Rattle.plan_text.proofs.Fronts.{Hexadecimal, hexadecimal_start, hexadecimal_more, hexadecimal_end}
+use mathlib.Core.Path.{◌≡◌}
+use lib.ListN.{length}
+use Rattle.plan_text.proofs.Fronts.{Hexadecimal}
 use Rattle.plan_text.proofs.put_half.Given as goal
 
 abbrev pub invariant-loop-i : goal.invariant-loop-i

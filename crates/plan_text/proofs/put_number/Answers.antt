@@ -1,7 +1,6 @@
 use native.Mathlib.Omega.{arith}
 use lib.ListN.{length-set}
 use Rattle.plan_text.proofs.Fronts.{prepend_behind}
-use borrow.Author.Rules.{rules}
 use Rattle.plan_text.proofs.put_number.Goals as goal
 
 pub put_decimal-requires : goal.put_decimal-requires
@@ -14,4 +13,4 @@ pub returns : goal.returns
 returns c =
     let e = c.args in
     let q = c.put_decimal in
-    (prepend_behind e.line.now _ _ _ _ _ (omega arith) (omega arith) q.ensures.0, omega (arith, q.ensures.1))
+    record { prepends = prepend_behind e.line.now _ _ _ _ _ (omega arith) (omega arith) q.ensures.prepends; end_bound = omega (arith, q.ensures.end_bound) }

@@ -3,7 +3,6 @@ use mathlib.Core.Path.{◌∙◌}
 use lib.ListN.{length-set}
 use Rattle.plan_rules.proofs.Texts.{length_hexadecimal}
 use Rattle.plan_text.proofs.Lines.{put_tick_halves}
-use borrow.Author.Rules.{rules}
 use Rattle.plan_text.proofs.put_tick.Goals as goal
 
 pub put_half-middle-requires : goal.put_half-middle-requires
@@ -13,20 +12,21 @@ pub put_half-requires : goal.put_half-requires
 put_half-requires c =
     let e = c.args in
     let q = c.put_half-middle in
-    let l = simp length-set at q.auto.0 in
+    let l = simp length-set at q.auto.line in
     (omega (arith, q.ensures.place, length_hexadecimal 16 e.t.lo), omega (arith, q.ensures.place, length_hexadecimal 16 e.t.lo))
 
 pub shape_of-line : goal.shape_of-line
 shape_of-line c =
     let q = c.put_half-middle in
     let p = c.put_half in
-    p.auto.0 ∙ simp length-set at q.auto.0
+    p.auto.line ∙ simp length-set at q.auto.line
 
 pub returns : goal.returns
 returns c =
     let e = c.args in
     let q = c.put_half-middle in
-    let p = c.put_half in (
-      put_tick_halves e.line.now _ _ e.t _ _ _ (omega arith) (omega arith) (omega arith) q.ensures p.ensures,
-      omega (arith, q.ensures.place, p.ensures.place, length_hexadecimal 16 e.t.lo, length_hexadecimal 16 e.t.hi),
-    )
+    let p = c.put_half in
+    record {
+      prepends = put_tick_halves e.line.now _ _ e.t _ _ _ (omega arith) (omega arith) (omega arith) q.ensures p.ensures;
+      end_value = omega (arith, q.ensures.place, p.ensures.place, length_hexadecimal 16 e.t.lo, length_hexadecimal 16 e.t.hi);
+    }

@@ -1,7 +1,6 @@
 use native.Mathlib.Omega.{arith}
 use lib.ListN.{length-set}
 use Rattle.plan_text.proofs.Lines.{put_end_word}
-use borrow.Author.Rules.{rules}
 use Rattle.plan_text.proofs.put_word.Goals as goal
 
 pub bounds-line-end-2 : goal.bounds-line-end-2
