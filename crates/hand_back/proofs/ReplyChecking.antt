@@ -1,8 +1,8 @@
 -- What each return of hand back gives.
 use mathlib.Core.Path.{◌≡◌, refl, sym, ap, subst, ◌∙◌}
-use mathlib.Core.Bool.{Bool, true, false, not, ◌||◌}
+use mathlib.Core.Bool.{Bool, true, false, not}
 use mathlib.Core.List.{List, []}
-use Prim.Native.Nat.{ℕ, ◌+◌, ◌*◌, ◌/◌, ◌≤◌, ◌<◌}
+use Prim.Native.Nat.{ℕ, ◌*◌, ◌/◌, ◌≤◌}
 use native.Mathlib.Omega.{arith}
 use lib.ListN.{length, get_or, length-replicate}
 use Rattle.words.specs.Words.{tab, zeroes}
@@ -11,12 +11,11 @@ use Rattle.records.specs.Records.{edges_of, events_of}
 use Rattle.rules.specs.Base.{if◌then◌else◌, count}
 use Rattle.rules.specs.Rows.{unless}
 use Rattle.rules.specs.History as H
-use Rattle.rules.specs.Pending.{queue}
-use Rattle.rules.specs.HandBack.{Emission, malformed, messages}
+use Rattle.rules.specs.HandBack.{Emission, malformed}
 use Rattle.rules.proofs.Tests.{by_bool, not_both, not_true, not_false}
 use Rattle.hand_back_edges.specs.Looks.{Looks, look_in_table, Rows, CanFind, Found, CanLook}
 use Rattle.hand_back_edges.proofs.PlaceRows.{rows_of, noughts}
-use Rattle.reply_words.specs.Emissions.{emission_at, emissions_of}
+use Rattle.reply_words.specs.Emissions.{emission_at}
 use Rattle.reply_words.specs.Replies.{Places, failed_not_in_batch, FailedNotInBatch, any_malformed_emission}
 use Rattle.reply_words.proofs.MalformedReply.{malformed_in_turn}
 use Rattle.hand_back_emission.specs.declared.CheckResult.{CheckResult}
@@ -26,7 +25,7 @@ use Rattle.hand_back_enqueue.specs.declared.Tail.{Tail}
 use Rattle.hand_back_enqueue.specs.Enqueued.{Enqueueable, Enqueued}
 use Rattle.hand_back_check.specs.declared.ReplyCheck.{ReplyCheck}
 use Rattle.hand_back_check.specs.EmissionRows.{first_failed, rows_up_to}
-use Rattle.hand_back_check.specs.Checks.{start_of, refused_with, Checkable, CheckStarted, Checked}
+use Rattle.hand_back_check.specs.Checks.{start_of, refused_with, CheckStarted, Checked}
 use Rattle.hand_back_check.proofs.Checking.{was_going}
 use Rattle.state.specs.declared.Header.{Header}
 use Rattle.state.specs.declared.Counters.{Counters}
@@ -40,7 +39,7 @@ use Rattle.hand_back_end.specs.EndsRound.{Poisons}
 use Rattle.hand_back_commit.specs.HandsBack.{HandsBack}
 use Rattle.hand_back_commit.specs.Commits.{InHand, ReplyChecked, Finishes, FinalCheck, CanEnd, Ends}
 use Rattle.hand_back_commit.proofs.Back.{back_poisoned, back_empty, back_malformed}
-use Rattle.hand_back.specs.ReplyChecks.{replied_of, as_given_to, Passed, EarlyRows, Ready, Started, Begins, CanReview, ChecksReply, CanCommit, Commits}
+use Rattle.hand_back.specs.ReplyChecks.{replied_of, as_given_to, Passed, EarlyRows, Ready, Begins, CanReview, ChecksReply, CanCommit, Commits}
 
 -- 12 and 25.
 module _ (h : Header) where

@@ -1,4 +1,3 @@
-use borrow.Author.Rules.{rules}
 use native.Mathlib.Omega.{arith}
 use Rattle.reply_words.proofs.Table.{empty_length}
 use Rattle.rules.proofs.Tests.{not_true, not_false}

@@ -1,16 +1,11 @@
-use mathlib.Core.Logic.{⊎_elim}
-use borrow.Author.Rules.{rules}
-use borrow.Author.Tests.{eqb-true}
 use Rattle.rules.proofs.Tests.{not_true, not_false}
 use Rattle.hand_back.proofs.ReplyChecking.{checks_stopped, checks_empty, can_review, checks_all, whole}
 use Rattle.hand_back.proofs.check_reply.Goals as goal
+use Rattle.hand_back.proofs.check_reply.Goals.{then-not-start-via-then-not-start, then-not-start-via-else-not-start+then-count-eq0}
 
 pub returns-then-not-start : goal.returns-then-not-start
 returns-then-not-start c =
-    ⊎_elim
-    (λ w. checks_stopped c.args.head _ _ _ c.args.mask _ _ c.begin_check-start.ensures _ (not_true _ w.taken))
-    (λ w. checks_empty c.args.head _ _ _ c.args.mask _ _ c.begin_check-start.ensures c.args.reply.now (eqb-true _ 0 w.1.taken))
-    c.if-not-start.branch
+    elim c.then-not-start.branch [ then-not-start-via-then-not-start w ↦ checks_stopped c.args.head _ _ _ c.args.mask _ _ c.begin_check-start.ensures _ (not_true _ w.if-not-start.true) | then-not-start-via-else-not-start+then-count-eq0 w ↦ checks_empty c.args.head _ _ _ c.args.mask _ _ c.begin_check-start.ensures c.args.reply.now w.if-count-eq0.true ]
 
 pub review-requires : goal.review-requires
 review-requires c =

@@ -1,4 +1,3 @@
-use borrow.Author.Rules.{rules}
 use Rattle.rules.proofs.Tests.{not_true, not_false}
 use Rattle.hand_back.proofs.ReplyChecking.{ready, can_commit, handed_as_given, handed_back}
 use Rattle.hand_back.proofs.hand_back.Goals as goal
@@ -9,7 +8,7 @@ check_reply-check-requires c =
 
 pub returns-then-not-check : goal.returns-then-not-check
 returns-then-not-check c =
-    handed_as_given c.args.head c.args.counters _ _ _ _ c.args.mask _ c.requires c.check_reply-check.result c.check_reply-check.ensures (not_true _ c.if-not-check.true) _ c.as_given_holds.ensures
+    handed_as_given c.args.head c.args.counters _ _ _ _ c.args.mask _ c.requires c.check_reply-check.result c.check_reply-check.ensures (not_true _ c.if-not-check.true) _ c.as_given.ensures
 
 pub commit-requires : goal.commit-requires
 commit-requires c =

@@ -1,4 +1,3 @@
-use borrow.Author.Rules.{rules}
 use Rattle.hand_back.proofs.ReplyChecking.{early_12, early_25, early_none}
 use Rattle.hand_back.proofs.refusal.Goals as goal
 
