@@ -2,7 +2,6 @@ use Prim.Native.Nat.{◌*◌}
 use mathlib.Core.Path.{sym}
 use native.Mathlib.Omega.{arith}
 use lib.Seq.{length-take-le}
-use borrow.Author.Rules.{rules}
 use Rattle.answer_text.proofs.put_bytes.Goals as goal
 
 pub slice_bounds-put-end : goal.slice_bounds-put-end

@@ -1,3 +1,4 @@
+use Rattle.std.proofs.Common.{◌≡◌, ℕ, ◌≤◌, length, get_or}
 use Rattle.run_plan.proofs.text_length.Given as goal
 
 abbrev pub invariant-loop-end : goal.invariant-loop-end
