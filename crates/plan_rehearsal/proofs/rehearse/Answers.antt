@@ -1,7 +1,8 @@
 use Rattle.plan_rehearsal.proofs.rehearse.Goals as goal
 -- `plan_rehearsal::rehearse` meets its contract.
 use borrow.Author.Rules.{rules}
-use mathlib.Core.Path.{sym, ◌∙◌}
+use mathlib.Core.Path.{sym, ap}
+use mathlib.Core.Bool.{not}
 use native.Mathlib.Omega.{arith}
 use lib.Seq.{length-take-le}
 use Rattle.plan_reader.proofs.Headers.{header_room}
@@ -29,7 +30,7 @@ read_edges-requires c =
     let early = passed_early c.args.file.now c.args.parts c.header-header.result known _ c.early_number-early.ensures (omega (arith, c.if-early-gt0.false)) in
     let few = few_there c.args.file.now c.args.parts pre early in
     let room = edges_room c.args.file.now c.args.parts pre in
-    ((room, omega (arith, room, short_file _ _ pre)), (search (few, rules), search (few, rules)))
+    record { count_in_bounds = (room, omega (arith, room, short_file _ _ pre)); count_in_bounds_2 = (search (few, rules), search (few, rules)) }
 
 -- src/lib.rt:172:31
 pub slice_bounds-from-end : goal.slice_bounds-from-end
@@ -55,7 +56,7 @@ returns-then-not-never_fall c =
     let pre = c.requires in
     let known = known_of c.args.file.now c.args.parts c.header-header.result pre c.header-header.ensures in
     let early = passed_early c.args.file.now c.args.parts c.header-header.result known _ c.early_number-early.ensures (omega (arith, c.if-early-gt0.false)) in
-    by_rehearsal _ _ _ _ _ (fallen_refused _ early (falls _ _ (stands_is c.args.file.now c.args.parts c.header-header.result known _ _ c.read_edges.ensures _ c.never_fall.ensures) c.if-not-never_fall.true-raw)) c.refuse-then-not-never_fall.ensures
+    by_rehearsal _ _ _ _ _ (fallen_refused _ early (falls _ _ (stands_is c.args.file.now c.args.parts c.header-header.result known _ _ c.read_edges.ensures _ c.never_fall.ensures) (ap not c.if-not-never_fall.true))) c.refuse-then-not-never_fall.ensures
 
 pub read_lookaheads-requires : goal.read_lookaheads-requires
 read_lookaheads-requires c =
@@ -64,7 +65,7 @@ read_lookaheads-requires c =
     let early = passed_early c.args.file.now c.args.parts c.header-header.result known _ c.early_number-early.ensures (omega (arith, c.if-early-gt0.false)) in
     let few = few_there c.args.file.now c.args.parts pre early in
     let room = edges_room c.args.file.now c.args.parts pre in
-    ((room, short_file _ _ pre), search (few, rules))
+    record { count_in_bounds = (room, short_file _ _ pre); count_in_bounds_2 = search (few, rules) }
 
 pub overflow_mul-words : goal.overflow_mul-words
 overflow_mul-words c =
@@ -133,4 +134,4 @@ rehearse_rows-requires c =
     let known = known_of c.args.file.now c.args.parts c.header-header.result pre c.header-header.ensures in
     let early = passed_early c.args.file.now c.args.parts c.header-header.result known _ c.early_number-early.ensures (omega (arith, c.if-early-gt0.false)) in
     let few = few_there c.args.file.now c.args.parts pre early in
-    can_make_rows c.args.file.now c.args.parts c.header-header.result known _ _ c.read_edges.ensures early.few (stands _ _ (stands_is c.args.file.now c.args.parts c.header-header.result known _ _ c.read_edges.ensures _ c.never_fall.ensures) c.if-not-never_fall.false-raw) (search (few, c.read_edges.auto, rules)) _ (search (few, c.read_lookaheads.auto, rules)) c.read_lookaheads.ensures
+    can_make_rows c.args.file.now c.args.parts c.header-header.result known _ _ c.read_edges.ensures early.few (stands _ _ (stands_is c.args.file.now c.args.parts c.header-header.result known _ _ c.read_edges.ensures _ c.never_fall.ensures) (ap not c.if-not-never_fall.false)) (search (few, c.read_edges.auto, rules)) _ (search (few, c.read_lookaheads.auto, rules)) c.read_lookaheads.ensures
