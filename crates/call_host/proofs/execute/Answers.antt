@@ -29,4 +29,4 @@ reply_in-reply-requires c =
 
 pub returns : goal.returns
 returns c =
-    back_executed _ _ c.requires _ _ _ _ _ c.if-tag-lt-STEP.false c.if-tag-eq-STEP.false _ c.reply_in-reply.ensures c.hand_back_holds.ensures
+    back_executed _ _ c.requires _ _ _ _ _ c.if-tag-lt-STEP.false c.if-tag-eq-STEP.false _ c.reply_in-reply.ensures c.hand_back.ensures

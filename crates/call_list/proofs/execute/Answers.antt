@@ -36,4 +36,4 @@ reply_in-reply-requires c = search back_there depth 1
 
 pub returns : goal.returns
 returns c =
-    back_carried _ _ c.requires.1 c.if-tag-lt-STEP.false c.if-tag-eq-STEP.false c.args.head c.args.counters _ _ _ _ _ c.hand_back_holds.result _ _ _ c.reply_in-reply.ensures c.hand_back_holds.ensures
+    back_carried _ _ c.requires.1 c.if-tag-lt-STEP.false c.if-tag-eq-STEP.false c.args.head c.args.counters _ _ _ _ _ c.hand_back.result _ _ _ c.reply_in-reply.ensures c.hand_back.ensures

@@ -39,4 +39,4 @@ message_in-m-requires c = search (initial_there _ _ c.requires.0 c.requires.1 c.
 
 pub returns : goal.returns
 returns c =
-    initial_executed _ _ c.requires.0 _ _ _ _ _ c.requires.1 c.if-words-at-eq-BEGIN.false _ c.message_in-m.ensures c.add_initial_holds.ensures
+    initial_executed _ _ c.requires.0 _ _ _ _ _ c.requires.1 c.if-words-at-eq-BEGIN.false _ c.message_in-m.ensures c.add_initial.ensures

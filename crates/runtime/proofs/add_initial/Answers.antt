@@ -11,9 +11,9 @@ returns-then-is_foreign c = c.refuse_foreign.ensures _
 
 pub add_initial-added-requires : goal.add_initial-added-requires
 add_initial-added-requires c =
-    let given = c.args.t1 in
+    let given = c.args.state in
     (can_look given (foreign_is given _ _ c.is_foreign.ensures c.if-is_foreign.false) (search rules), can_queue given (foreign_is given _ _ c.is_foreign.ensures c.if-is_foreign.false) (search rules))
 
 pub returns : goal.returns
 returns c =
-    carries_initial _ (foreign_is _ _ _ c.is_foreign.ensures c.if-is_foreign.false) _ _ _ _ c.add_initial_holds.ensures
+    carries_initial _ (foreign_is _ _ _ c.is_foreign.ensures c.if-is_foreign.false) _ _ _ _ c.add_initial-added.ensures

@@ -13,4 +13,4 @@ pub hand_back-handed-requires : goal.hand_back-handed-requires
 hand_back-handed-requires c = search (can_lend, foreign_is, rules)
 
 pub returns : goal.returns
-returns c = carries_back _ _ _ _ _ _ _ _ c.hand_back_holds.ensures
+returns c = carries_back _ _ _ _ _ _ _ _ c.hand_back-handed.ensures

@@ -22,4 +22,4 @@ pub returns : goal.returns
 returns c =
     let e = c.args in
     let q = c.copy in
-    put_behind e.out.now e.at e.text.now q.new.1.0 q.result (omega arith) (omega arith) q.ensures.0 q.ensures.1 q.auto.1.0
+    put_behind e.out.now e.at e.text.now q.new.out q.result (omega arith) (omega arith) q.ensures.value q.ensures.out_after q.auto.out

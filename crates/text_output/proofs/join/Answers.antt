@@ -11,4 +11,5 @@ returns c =
     let p = c.copy-at in
     let q = c.copy in
     let s : length e.second.now ≡ 16 = search rules in
-    join_both e.first.now e.second.now e.out.now p.new.1.0 q.new.1.0 p.result q.result s (omega arith) p.auto.1.0 p.ensures.0 p.ensures.1 q.ensures.0 q.ensures.1
+    let both = join_both e.first.now e.second.now e.out.now p.new.out q.new.out p.result q.result s (omega arith) p.auto.out p.ensures.value p.ensures.out_after q.ensures.value q.ensures.out_after in
+    record { value = both.0; out_after = both.1 }

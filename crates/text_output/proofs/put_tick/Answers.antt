@@ -1,10 +1,9 @@
 use Rattle.types.specs.Value.{ticks_of}
 use Rattle.text_output.proofs.Behind.{put_number}
-use borrow.Author.Rules.{rules}
 use Rattle.text_output.proofs.put_tick.Goals as goal
 
 pub returns : goal.returns
 returns c =
     let e = c.args in
     let q = c.tick_digits-k in
-    put_number 16 (ticks_of e.t) e.out.now e.at q.result q.new.1.0 _ _ q.ensures.1.0 q.ensures.1.1 c.put.ensures
+    put_number 16 (ticks_of e.t) e.out.now e.at q.result q.new.out _ _ q.ensures.digit_count q.ensures.out_after c.put.ensures

@@ -12,8 +12,8 @@ copy-requires c =
     let e = c.args in
     let q = c.hex-k in
     let l : length e.out.now ≡ 32 = search rules in
-    let m : q.result ≤ 16 = most_digits e.t.lo q.result 1 (omega arith) (omega arith) q.ensures.1.0 in
-    let g = length-take-le q.result q.new.1.1.0 q.ensures.0.0 in
+    let m : q.result ≤ 16 = most_digits e.t.lo q.result 1 (omega arith) (omega arith) q.ensures.len in
+    let g = length-take-le q.result q.new.out q.ensures.in_bounds.0 in
     omega arith
 
 pub returns-then-t-eq0 : goal.returns-then-t-eq0
@@ -22,17 +22,18 @@ returns-then-t-eq0 c =
     let q = c.hex-k in
     let p = c.copy in
     let l : length e.out.now ≡ 32 = search rules in
-    let m : q.result ≤ 16 = most_digits e.t.lo q.result 1 (omega arith) (omega arith) q.ensures.1.0 in
-    let g = length-take-le q.result q.new.1.1.0 q.ensures.0.0 in
-    short e.t q.result p.result q.new.1.1.0 e.out.now p.new.1.0 (omega arith) q.ensures.0.0 q.ensures.1.0 q.ensures.1.1 p.ensures.0 p.ensures.1 p.auto.1.0 (omega arith)
+    let m : q.result ≤ 16 = most_digits e.t.lo q.result 1 (omega arith) (omega arith) q.ensures.len in
+    let g = length-take-le q.result q.new.out q.ensures.in_bounds.0 in
+    let told = short e.t q.result p.result q.new.out e.out.now p.new.out (omega arith) q.ensures.in_bounds.0 q.ensures.len q.ensures.digits p.ensures.value p.ensures.out_after p.auto.out (omega arith) in
+    record { prefix_len = told.0; digit_count = told.1.0; out_after = told.1.1 }
 
 pub join-requires : goal.join-requires
 join-requires c =
     let e = c.args in
     let q = c.hex-k-2 in
     let l : length e.out.now ≡ 32 = search rules in
-    let m : q.result ≤ 16 = most_digits e.t.hi q.result 1 (omega arith) (omega arith) q.ensures.1.0 in
-    let g = length-take-le q.result q.new.1.1.0 q.ensures.0.0 in
+    let m : q.result ≤ 16 = most_digits e.t.hi q.result 1 (omega arith) (omega arith) q.ensures.len in
+    let g = length-take-le q.result q.new.out q.ensures.in_bounds.0 in
     omega arith
 
 pub returns : goal.returns
@@ -42,7 +43,8 @@ returns c =
     let p = c.hex in
     let j = c.join in
     let l : length e.out.now ≡ 32 = search rules in
-    let m : q.result ≤ 16 = most_digits e.t.hi q.result 1 (omega arith) (omega arith) q.ensures.1.0 in
-    let g = length-take-le q.result q.new.1.1.0 q.ensures.0.0 in
-    let k = j.auto.1.1.0 in
-    long e.t q.result p.result j.result q.new.1.1.0 p.new.1.1.0 j.new.1.1.0 (omega arith) (omega arith) q.ensures.0.0 q.ensures.1.0 q.ensures.1.1 p.ensures.1.0 p.ensures.1.1 j.ensures.0 j.ensures.1 (omega arith)
+    let m : q.result ≤ 16 = most_digits e.t.hi q.result 1 (omega arith) (omega arith) q.ensures.len in
+    let g = length-take-le q.result q.new.out q.ensures.in_bounds.0 in
+    let k = j.auto.out in
+    let told = long e.t q.result p.result j.result q.new.out p.new.out j.new.out (omega arith) (omega arith) q.ensures.in_bounds.0 q.ensures.len q.ensures.digits p.ensures.len p.ensures.digits j.ensures.value j.ensures.out_after (omega arith) in
+    record { prefix_len = told.0; digit_count = told.1.0; out_after = told.1.1 }
