@@ -7,8 +7,6 @@ use native.Mathlib.Omega.{arith}
 use lib.Dec.{ltb, eqb}
 use lib.ListN.{take, drop}
 use borrow.Author.Tests.{lt-ltb, le-ltb, ltb-false}
-use types.Run.{OneOf}
-use denote.Enum.Declared.{tag_of}
 use Rattle.rules.specs.Base.{if◌then◌else◌, Maybe, none, some, any, member, rising, up_to}
 use Rattle.rules.specs.Answers as A
 use Rattle.rules.specs.Rows.{Row, unless}
@@ -29,7 +27,6 @@ use Rattle.build_topology.proofs.Sums.{fit_orderly, fit_fitting}
 use Rattle.build.specs.declared.BuildAnswer.{BuildAnswer}
 use Rattle.build.specs.declared.BuildAnswer.TheVariants as P
 use Rattle.build.specs.Checks.{answer_of, answer_for, answer_of_rows, ChecksProcesses, ChecksTopology, ChecksBuild}
-use Rattle.build.specs.contracts.BuildAnswer.{the_type}
 use Rattle.build.proofs.AnswerRows.{answer_decided, answer_built, answer_refused, answer_passed, answer_on}
 use Rattle.build.proofs.Numbering.{refusing}
 

@@ -1,16 +1,11 @@
 -- What holds of each of build's answers: its number and its values are those of the rules' answer that it stands for, and it refuses unless it is Accepted.
 use mathlib.Core.Path.{◌≡◌, refl, ap, ◌∙◌}
-use mathlib.Core.List.{List, [], ◌∷◌}
-use Prim.Native.Nat.{ℕ}
-use types.Run.{OneOf, miss}
-use denote.Enum.Declared.{tag_of}
 use Rattle.rules.specs.Answers as A
 use Rattle.rules.specs.Answers.{number, values, refusal_number, refusal_values}
 use Rattle.build.specs.declared.BuildAnswer.{BuildAnswer}
 use Rattle.build.specs.declared.BuildAnswer.TheVariants as P
 use Rattle.build.specs.Checks.{answer_of}
 use Rattle.build.specs.Numbers.{number_of, values_of}
-use Rattle.build.specs.contracts.BuildAnswer.{the_type}
 
 record Numbering (a : BuildAnswer) : Type 0 where
   pub number_is : number_of a ≡ number (answer_of a)

@@ -18,14 +18,14 @@ use Rattle.records.specs.Records.{edges_of, events_of}
 use Rattle.hand_back_edges.specs.Looks.{Looks}
 use Rattle.reply_words.specs.declared.Emission.{Emission}
 use Rattle.reply_words.specs.Emissions.{emission_of, emission_in, emission_at, emissions_of}
-use Rattle.reply_words.specs.Replies.{malformed_emission, any_malformed_emission}
+use Rattle.reply_words.specs.Replies.{any_malformed_emission}
 use Rattle.hand_back_emission.specs.Checks.{ChecksRows}
 use Rattle.hand_back_emission.proofs.Checks.{nothing}
 use Rattle.state.specs.declared.Header.{Header}
 use Rattle.state.specs.View.{view}
 use Rattle.hand_back_check.specs.declared.ReplyCheck.{ReplyCheck}
 use Rattle.hand_back_check.specs.EmissionRows.{last_of, rows_up_to}
-use Rattle.hand_back_check.specs.Checks.{Checkable, start_of, NextResult, ChecksNext, Checks, CheckStarted, Checked}
+use Rattle.hand_back_check.specs.Checks.{Checkable, NextResult, ChecksNext, Checks, CheckStarted, Checked}
 use Rattle.hand_back_check.proofs.Next.{seated}
 use Rattle.hand_back_check.proofs.Snoc.{last_snoc, ill_snoc, remote_snoc, rows_snoc}
 

@@ -1,6 +1,5 @@
 -- The table of places: what it says of the batch, and how it is filled, from the last event to the first.
 use mathlib.Core.Path.{◌≡◌, refl, sym, ap, ◌∙◌}
-use mathlib.Core.Logic.{⊎_elim}
 use mathlib.Core.Bool.{Bool, true, false, not, ◌||◌}
 use mathlib.Core.List.{List, [], ◌∷◌}
 use Prim.Native.Nat.{ℕ, zero, suc, ◌+◌, ◌-◌, ◌*◌, ◌≤◌, ◌<◌}
@@ -9,7 +8,6 @@ use lib.Dec.{eqb}
 use lib.ListN.{length, get_or, set, get_or-eq_default}
 use lib.Seq.{get_or-set_same, get_or-set_other}
 use borrow.Author.Tests.{eqb-true, eqb-false, ne_eqb}
-use Rattle.types.proofs.Halves.{lt_or_ge}
 use Rattle.words.specs.Words.{tab, zeroes}
 use Rattle.words.proofs.Tab.{tab_step, tab_none, tab_whole}
 use Rattle.rules.specs.Base.{if◌then◌else◌, some, any}

@@ -6,7 +6,7 @@ use Prim.Native.Nat.{ℕ, suc, ◌<◌}
 use native.Mathlib.Omega.{arith}
 use lib.ListN.{length}
 use Rattle.rules.specs.Base.{if◌then◌else◌, up_to, count}
-use Rattle.rules.specs.State.{Edge, State, Counters}
+use Rattle.rules.specs.State.{State, Counters}
 use Rattle.rules.specs.Answers.{Reading, Pending, Counted, Read, Accepted}
 use Rattle.rules.specs.Rows.{unless, Out}
 use Rattle.rules.specs.Build.{Setup, built, build}

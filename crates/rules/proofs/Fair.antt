@@ -1,16 +1,14 @@
 -- The invariant behind order: what is handed out, pending, in hand, and how bounds and local horizons hold it.
-use mathlib.Core.Path.{◌≡◌, refl, ap}
+use mathlib.Core.Path.{◌≡◌, ap}
 use mathlib.Core.List.{List, [], ◌∷◌}
 use Prim.Native.Nat.{ℕ, zero, suc, ◌+◌, ◌≤◌, ◌<◌, max}
 use native.Mathlib.Omega.{arith}
 use native.Mathlib.Nat.{add-zero, add-suc, suc-add, zero-add}
 use lib.ListN.{length, get_or}
-use borrow.Author.Tests.{eqb-false}
 use Rattle.rules.specs.State.{Event, Message, Edge, State, max_tick}
 use Rattle.rules.specs.Frontiers.{recorded, safe}
 use Rattle.rules.specs.Refresh.{raised}
 use Rattle.rules.specs.Step.{input_frontier, raised_edges}
-use Rattle.rules.proofs.Tests.{by_test}
 use Rattle.rules.proofs.Lists.{All, all_map, all_both}
 use Rattle.rules.proofs.Shape.{Joined}
 use Rattle.rules.proofs.Recorded.{RecordBelow}

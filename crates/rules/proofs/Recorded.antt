@@ -13,7 +13,7 @@ use Rattle.rules.specs.Frontiers.{least_into, least_inbound, inbound_of, recorde
 use Rattle.rules.specs.Foreign.{foreign}
 use Rattle.rules.proofs.Tests.{by_test, by_bool}
 use Rattle.rules.proofs.Lists.{All, all_map, all_both, all_number, at_number}
-use Rattle.rules.proofs.Shape.{Joined, Recorded, Shaped, shaped, below_top}
+use Rattle.rules.proofs.Shape.{Joined, Recorded, shaped, below_top}
 
 -- What the record has for a process.
 pub record_at : (n : ℕ) (m : List ℕ) (es : List Edge) → Recorded n m es → (p : ℕ) → p < n → recorded m p ≡ least_inbound es p

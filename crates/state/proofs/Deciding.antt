@@ -1,16 +1,12 @@
 -- Rows that decide, and rows that do not.
-use mathlib.Core.Path.{◌≡◌, refl, sym, ap, ◌∙◌, subst}
+use mathlib.Core.Path.{◌≡◌, refl, sym, ap, ◌∙◌}
 use mathlib.Core.Bool.{true, true≢false}
-use mathlib.Core.List.{List, [], ◌∷◌}
-use Prim.Native.Nat.{ℕ}
-use types.Run.{OneOf, miss}
-use denote.Enum.Declared.{tag_of}
+use mathlib.Core.List.{[]}
 use Rattle.rules.specs.History as H
 use Rattle.state.specs.declared.Answer.{Answer}
 use Rattle.state.specs.declared.Answer.TheVariants as P
 use Rattle.state.specs.View.{answer_of}
 use Rattle.state.specs.RefusalOr.{RefusalOr}
-use Rattle.state.specs.contracts.Answer.{the_type}
 
 module _ {A B : Type 0} where
   pub passes : A → RefusalOr P.Accepted A B

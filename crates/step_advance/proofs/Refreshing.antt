@@ -1,5 +1,5 @@
 -- The leaves of a refresh, put together.
-use mathlib.Core.Path.{◌≡◌, refl, sym, ap, subst, ◌∙◌}
+use mathlib.Core.Path.{◌≡◌, refl, sym, ap, ◌∙◌}
 use mathlib.Core.List.{List, [], ◌∷◌}
 use Prim.Native.Nat.{ℕ, suc, ◌+◌, ◌-◌, ◌<◌, min, max}
 use native.Mathlib.Omega.{arith}
@@ -10,7 +10,7 @@ use Rattle.words.specs.Words.{tick_of, ticks_in, horizons_of, inbounds_of}
 use Rattle.words.proofs.Tab.{length_tab, tab_cong}
 use Rattle.rules.specs.State.{State}
 use Rattle.rules.specs.Refresh.{least, raised}
-use Rattle.rules.specs.Step.{input_frontier, any_raised, new_horizons}
+use Rattle.rules.specs.Step.{input_frontier, new_horizons}
 use Rattle.rules.proofs.Shape.{Queued}
 use Rattle.inbound.proofs.Recording.{safe_in}
 use Rattle.frontiers.specs.Tables.{FirstTicks}

@@ -1,5 +1,4 @@
 use Rattle.build.proofs.Checking.{kept}
-use borrow.Author.Rules.{rules}
 use Rattle.build.proofs.answer_of.Goals as goal
 
 pub returns-in-UnknownTopologySource : goal.returns-in-UnknownTopologySource

@@ -1,4 +1,3 @@
-use borrow.Author.Rules.{rules}
 use Rattle.build.proofs.Checking.{few, second_part, first_part}
 use Rattle.build.proofs.check.Goals as goal
 

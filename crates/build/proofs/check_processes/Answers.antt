@@ -1,4 +1,3 @@
-use borrow.Author.Rules.{rules}
 use Rattle.build.proofs.Checking.{wrong_count, no_lookahead, unordered, orderly, exactly, some_unexpected, some_missing}
 use Rattle.build.proofs.check_processes.Goals as goal
 

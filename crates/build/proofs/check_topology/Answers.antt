@@ -1,4 +1,3 @@
-use borrow.Author.Rules.{rules}
 use Rattle.build.proofs.Checking.{malformed, rows_orderly, rows_fitting, entry_missing, rows_checked}
 use Rattle.build.proofs.check_topology.Goals as goal
 

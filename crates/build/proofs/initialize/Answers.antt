@@ -1,4 +1,3 @@
-use borrow.Author.Rules.{rules}
 use Rattle.build.proofs.Initializing.{few, table_words, edge_words, known, laid}
 use Rattle.build.proofs.initialize.Goals as goal
 

@@ -1,7 +1,6 @@
 use native.Mathlib.Omega.{arith}
 use lib.ListN.{length-set}
 use Rattle.build_edges.proofs.Behind.{length_one, written_one}
-use borrow.Author.Rules.{rules}
 use Rattle.build_edges.proofs.put_edge.Goals as goal
 
 pub bounds-edges-i-2 : goal.bounds-edges-i-2

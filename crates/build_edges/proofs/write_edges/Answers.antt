@@ -1,8 +1,6 @@
-use mathlib.Core.Path.{◌≡◌, refl}
-use Prim.Native.Nat.{◌-◌}
+use mathlib.Core.Path.{refl}
 use native.Mathlib.Omega.{arith}
-use lib.ListN.{length}
-use Rattle.build_edges.proofs.Rows.{WritingEdges, writing_start, row_fits, row_room, writing_more, writing_end}
+use Rattle.build_edges.proofs.Rows.{writing_start, row_fits, row_room, writing_more, writing_end}
 use borrow.Author.Rules.{rules}
 use Rattle.build_edges.proofs.write_edges.Goals as goal
 

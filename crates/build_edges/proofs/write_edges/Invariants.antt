@@ -1,9 +1,7 @@
-use mathlib.Core.Path.{◌≡◌, refl}
+use mathlib.Core.Path.{◌≡◌}
 use Prim.Native.Nat.{◌-◌}
-use native.Mathlib.Omega.{arith}
 use lib.ListN.{length}
-use Rattle.build_edges.proofs.Rows.{WritingEdges, writing_start, row_fits, row_room, writing_more, writing_end}
-use borrow.Author.Rules.{rules}
+use Rattle.build_edges.proofs.Rows.{WritingEdges}
 use Rattle.build_edges.proofs.write_edges.Given as goal
 
 abbrev pub invariant-loop-i : goal.invariant-loop-i

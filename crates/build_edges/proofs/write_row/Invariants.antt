@@ -2,13 +2,10 @@ use mathlib.Core.Path.{◌≡◌}
 use mathlib.Core.List.{map}
 use Prim.Native.Nat.{◌≤◌, ◌-◌}
 use lib.ListN.{length, take}
-use borrow.Author.Rules.{rules}
 use Rattle.rules.specs.Build.{edge_to}
 use Rattle.types.specs.Value.{lp_id_of}
 use Rattle.build_topology.specs.Lookaheads.{targets_for}
 use Rattle.build_edges.specs.Written.{WritesRow}
-use Rattle.build_edges.proofs.Behind.{written_none, row_more, row_end}
-use borrow.Author.Rules.{rules}
 use Rattle.build_edges.proofs.write_row.Given as goal
 
 abbrev pub invariant-loop-i : goal.invariant-loop-i

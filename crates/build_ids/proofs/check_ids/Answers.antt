@@ -1,9 +1,6 @@
 use mathlib.Core.Path.{sym, ◌∙◌}
-use mathlib.Core.Logic.{⊎_elim}
-use Prim.Native.Nat.{◌-◌}
 use native.Mathlib.Omega.{arith}
-use borrow.Author.Rules.{rules}
-use Rattle.build_ids.proofs.RisingLists.{Met, mask_fits, met_none, met_on, met_off, met_all}
+use Rattle.build_ids.proofs.RisingLists.{mask_fits, met_none, met_on, met_off, met_all}
 use Rattle.build_ids.proofs.check_ids.Goals as goal
 use Rattle.build_ids.proofs.check_ids.Goals.{then-is_at, else-is_at}
 

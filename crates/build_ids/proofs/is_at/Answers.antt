@@ -1,7 +1,6 @@
 use mathlib.Core.Path.{sym, ap, ◌∙◌}
 use Prim.Native.Nat.{ℕ}
 use lib.Dec.{eqb}
-use borrow.Author.Rules.{rules}
 use Rattle.build_ids.proofs.RisingLists.{starts_at, starts_none}
 use Rattle.build_ids.proofs.is_at.Goals as goal
 

@@ -1,9 +1,6 @@
 use mathlib.Core.Path.{sym, ◌∙◌}
-use Prim.Native.Nat.{◌-◌}
-use native.Mathlib.Omega.{arith}
-use borrow.Author.Rules.{rules}
 use borrow.Author.Tests.{not-true, not-false}
-use Rattle.build_ids.proofs.RisingLists.{Rowed, rowed_none, rowed_on, rowed_off, rowed_all}
+use Rattle.build_ids.proofs.RisingLists.{rowed_none, rowed_on, rowed_off, rowed_all}
 use Rattle.build_ids.proofs.least_without_row.Goals as goal
 
 pub loop-p-init : goal.loop-p-init

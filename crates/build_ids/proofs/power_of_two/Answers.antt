@@ -1,7 +1,6 @@
 use Prim.Native.Nat.{◌^◌, ◌<◌}
 use native.Mathlib.Nat.{one-mul, mod-eq_of_lt}
 use lib.Pow.{pow-lt}
-use borrow.Author.Rules.{rules}
 use Rattle.build_ids.proofs.power_of_two.Goals as goal
 
 pub returns : goal.returns

@@ -1,9 +1,5 @@
-use mathlib.Core.Path.{◌≡◌, refl, sym, ◌∙◌}
-use Prim.Native.Nat.{◌-◌, ◌≤◌}
+use mathlib.Core.Path.{refl, sym, ◌∙◌}
 use native.Mathlib.Omega.{arith}
-use lib.Dec.{ltb}
-use lib.ListN.{length, drop}
-use Rattle.rules.specs.Base.{rising}
 use Rattle.build_ids.proofs.RisingLists.{rising_stops, rising_on, rising_ends}
 use Rattle.build_ids.proofs.rising.Goals as goal
 

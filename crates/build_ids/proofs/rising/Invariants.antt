@@ -1,10 +1,8 @@
-use mathlib.Core.Path.{◌≡◌, refl, sym, ◌∙◌}
+use mathlib.Core.Path.{◌≡◌}
 use Prim.Native.Nat.{◌-◌, ◌≤◌}
-use native.Mathlib.Omega.{arith}
 use lib.Dec.{ltb}
 use lib.ListN.{length, drop}
 use Rattle.rules.specs.Base.{rising}
-use Rattle.build_ids.proofs.RisingLists.{rising_stops, rising_on, rising_ends}
 use Rattle.build_ids.proofs.rising.Given as goal
 
 abbrev pub invariant-loop-i : goal.invariant-loop-i

@@ -1,8 +1,4 @@
-use Prim.Native.Nat.{◌-◌}
-use borrow.Author.Rules.{rules}
-use Rattle.rules.specs.Pending.{joins}
-use Rattle.records.specs.Records.{edge_at}
-use Rattle.records.proofs.Passes.{Seeking, seeking_start, answer_passed, answer_found, seeking_end}
+use Rattle.records.proofs.Passes.{seeking_start, answer_passed, answer_found, seeking_end}
 use Rattle.edges.proofs.Tested.{route_self, route_along}
 use Rattle.edges.proofs.has_route.Goals as goal
 

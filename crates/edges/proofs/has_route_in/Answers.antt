@@ -1,4 +1,3 @@
-use borrow.Author.Rules.{rules}
 use Rattle.edges.proofs.Marks.{leads_self, leads_along}
 use Rattle.edges.proofs.has_route_in.Goals as goal
 

@@ -1,8 +1,7 @@
-use mathlib.Core.Path.{◌≡◌, refl}
-use lib.ListN.{length}
+use mathlib.Core.Path.{refl}
 use borrow.Author.Rules.{rules}
-use Rattle.inbound.proofs.Recording.{Recording, recording_start, recording_more}
-use Rattle.edges.proofs.Pairs.{Passing, passing_start, passing_more, passing_stop, passing_end, destination_known}
+use Rattle.inbound.proofs.Recording.{recording_start, recording_more}
+use Rattle.edges.proofs.Pairs.{passing_start, passing_more, passing_stop, passing_end, destination_known}
 use Rattle.edges.proofs.invalid_edges.Goals as goal
 
 pub loop-i-init : goal.loop-i-init

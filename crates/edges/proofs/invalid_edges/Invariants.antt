@@ -1,8 +1,7 @@
-use mathlib.Core.Path.{◌≡◌, refl}
+use mathlib.Core.Path.{◌≡◌}
 use lib.ListN.{length}
-use borrow.Author.Rules.{rules}
-use Rattle.inbound.proofs.Recording.{Recording, recording_start, recording_more}
-use Rattle.edges.proofs.Pairs.{Passing, passing_start, passing_more, passing_stop, passing_end, destination_known}
+use Rattle.inbound.proofs.Recording.{Recording}
+use Rattle.edges.proofs.Pairs.{Passing}
 use Rattle.edges.proofs.invalid_edges.Given as goal
 
 abbrev pub invariant-loop-i : goal.invariant-loop-i

@@ -1,5 +1,4 @@
 use native.Mathlib.Omega.{arith}
-use borrow.Author.Rules.{rules}
 use Rattle.edges.proofs.Marks.{source_below, destination_below, marking}
 use Rattle.edges.proofs.mark_route.Goals as goal
 

@@ -1,4 +1,3 @@
-use borrow.Author.Rules.{rules}
 use borrow.Author.Tests.{le-leb, lt-leb}
 use Rattle.records.specs.Records.{edge_at}
 use Rattle.edges.proofs.Tested.{or_first, or_second}

@@ -1,4 +1,3 @@
-use borrow.Author.Rules.{rules}
 use Rattle.edges.proofs.Tested.{zero_lookahead}
 use Rattle.edges.proofs.without_lookahead.Goals as goal
 

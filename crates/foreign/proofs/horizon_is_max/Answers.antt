@@ -1,4 +1,3 @@
-use borrow.Author.Rules.{rules}
 use Rattle.foreign.proofs.Headers.{not_stored, stored_top}
 use Rattle.foreign.proofs.horizon_is_max.Goals as goal
 

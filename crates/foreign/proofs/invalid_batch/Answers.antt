@@ -1,4 +1,3 @@
-use borrow.Author.Rules.{rules}
 use Rattle.foreign.proofs.Chain.{stops, goes_on, ends, answered, inverted}
 use Rattle.foreign.proofs.invalid_batch.Goals as goal
 

@@ -1,4 +1,3 @@
-use borrow.Author.Rules.{rules}
 use Rattle.foreign.proofs.Compared.{edge_invalid, edges_valid}
 use Rattle.foreign.proofs.invalid_edges.Goals as goal
 

@@ -1,4 +1,3 @@
-use borrow.Author.Rules.{rules}
 use Rattle.foreign.proofs.Chain.{stops, answered}
 use Rattle.foreign.proofs.Headers.{with_run_holds, without_run}
 use Rattle.foreign.proofs.invalid_run.Goals as goal

@@ -1,4 +1,3 @@
-use borrow.Author.Rules.{rules}
 use borrow.Author.Tests.{eq-eqb, ne_eqb, lt-ltb, le-ltb}
 use Rattle.foreign.proofs.Chain.{stops, goes_on, ends}
 use Rattle.foreign.proofs.invalid_size.Goals as goal

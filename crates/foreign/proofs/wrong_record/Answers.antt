@@ -1,8 +1,5 @@
-use Prim.Native.Nat.{◌-◌}
-use borrow.Author.Rules.{rules}
-use Rattle.records.proofs.Passes.{Seeking, seeking_start, answer_passed}
-use Rattle.foreign.specs.Tests.{differs_at}
-use Rattle.foreign.proofs.Compared.{each, tick_wrong, ticks_right}
+use Rattle.records.proofs.Passes.{seeking_start, answer_passed}
+use Rattle.foreign.proofs.Compared.{tick_wrong, ticks_right}
 use Rattle.foreign.proofs.wrong_record.Goals as goal
 
 pub returns-then-wrong_tick : goal.returns-then-wrong_tick

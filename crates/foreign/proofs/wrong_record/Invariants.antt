@@ -1,8 +1,7 @@
 use Prim.Native.Nat.{◌-◌}
-use borrow.Author.Rules.{rules}
-use Rattle.records.proofs.Passes.{Seeking, seeking_start, answer_passed}
+use Rattle.records.proofs.Passes.{Seeking}
 use Rattle.foreign.specs.Tests.{differs_at}
-use Rattle.foreign.proofs.Compared.{each, tick_wrong, ticks_right}
+use Rattle.foreign.proofs.Compared.{each}
 use Rattle.foreign.proofs.wrong_record.Given as goal
 
 abbrev pub invariant-loop-p : goal.invariant-loop-p

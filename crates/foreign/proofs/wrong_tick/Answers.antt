@@ -1,4 +1,3 @@
-use borrow.Author.Rules.{rules}
 use Rattle.foreign.proofs.Compared.{ticks_differ}
 use Rattle.foreign.proofs.wrong_tick.Goals as goal
 

@@ -1,8 +1,4 @@
-use borrow.Author.Rules.{rules}
-use Prim.Native.Nat.{◌-◌}
-use Rattle.records.specs.Records.{event_at}
-use Rattle.records.proofs.Passes.{Seeking, seeking_start}
-use Rattle.foreign_events.specs.Clauses.{invalid_event}
+use Rattle.records.proofs.Passes.{seeking_start}
 use Rattle.foreign_events.proofs.Clauses.{invalid_passed, invalid_found, none_invalid}
 use Rattle.foreign_events.proofs.invalid_events.Goals as goal
 

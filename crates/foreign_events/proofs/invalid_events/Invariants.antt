@@ -1,9 +1,7 @@
-use borrow.Author.Rules.{rules}
 use Prim.Native.Nat.{◌-◌}
 use Rattle.records.specs.Records.{event_at}
-use Rattle.records.proofs.Passes.{Seeking, seeking_start}
+use Rattle.records.proofs.Passes.{Seeking}
 use Rattle.foreign_events.specs.Clauses.{invalid_event}
-use Rattle.foreign_events.proofs.Clauses.{invalid_passed, invalid_found, none_invalid}
 use Rattle.foreign_events.proofs.invalid_events.Given as goal
 
 abbrev pub invariant-loop-i : goal.invariant-loop-i

@@ -1,9 +1,5 @@
 use native.Mathlib.Omega.{arith}
-use borrow.Author.Rules.{rules}
-use Prim.Native.Nat.{◌-◌}
-use Rattle.rules.specs.Foreign.{by_process}
-use Rattle.records.specs.Records.{event_at}
-use Rattle.records.proofs.Passes.{Climbing, climbing_start, climbing_end}
+use Rattle.records.proofs.Passes.{climbing_start, climbing_end}
 use Rattle.foreign_events.proofs.Clauses.{next_ahead, next_behind}
 use Rattle.foreign_events.proofs.rising_by_process.Goals as goal
 

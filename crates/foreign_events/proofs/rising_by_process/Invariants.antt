@@ -1,10 +1,7 @@
-use native.Mathlib.Omega.{arith}
-use borrow.Author.Rules.{rules}
 use Prim.Native.Nat.{◌-◌}
 use Rattle.rules.specs.Foreign.{by_process}
 use Rattle.records.specs.Records.{event_at}
-use Rattle.records.proofs.Passes.{Climbing, climbing_start, climbing_end}
-use Rattle.foreign_events.proofs.Clauses.{next_ahead, next_behind}
+use Rattle.records.proofs.Passes.{Climbing}
 use Rattle.foreign_events.proofs.rising_by_process.Given as goal
 
 abbrev pub invariant-loop-i : goal.invariant-loop-i

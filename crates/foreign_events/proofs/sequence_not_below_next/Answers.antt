@@ -1,9 +1,5 @@
-use borrow.Author.Rules.{rules}
-use Prim.Native.Nat.{◌-◌}
 use borrow.Author.Tests.{le-leb, lt-leb}
-use Rattle.records.specs.Records.{event_at}
-use Rattle.records.proofs.Passes.{Seeking, seeking_start, seeking_end}
-use Rattle.foreign_events.specs.Clauses.{sequence_not_below}
+use Rattle.records.proofs.Passes.{seeking_start, seeking_end}
 use Rattle.foreign_events.proofs.Clauses.{event_passed, event_found}
 use Rattle.foreign_events.proofs.sequence_not_below_next.Goals as goal
 

@@ -1,10 +1,7 @@
-use borrow.Author.Rules.{rules}
 use Prim.Native.Nat.{◌-◌}
-use borrow.Author.Tests.{le-leb, lt-leb}
 use Rattle.records.specs.Records.{event_at}
-use Rattle.records.proofs.Passes.{Seeking, seeking_start, seeking_end}
+use Rattle.records.proofs.Passes.{Seeking}
 use Rattle.foreign_events.specs.Clauses.{sequence_not_below}
-use Rattle.foreign_events.proofs.Clauses.{event_passed, event_found}
 use Rattle.foreign_events.proofs.sequence_not_below_next.Given as goal
 
 abbrev pub invariant-loop-i : goal.invariant-loop-i

@@ -1,4 +1,3 @@
-use borrow.Author.Rules.{rules}
 use Rattle.types.specs.Value.{duration_of}
 use Rattle.rules.proofs.Tests.{not_true, not_false}
 use Rattle.hand_back_check.proofs.Next.{check_stopped, check_malformed, check_refused, check_behind, check_checked, in_hand_holds, judgeable}

@@ -1,8 +1,5 @@
-use borrow.Author.Rules.{rules}
-use Prim.Native.Nat.{◌-◌}
 use native.Mathlib.Omega.{arith}
-use Rattle.hand_back_edges.specs.Looks.{look_in_table}
-use Rattle.hand_back_check.proofs.Checking.{Checking, checking_start, checking_asks, checking_more, checking_end}
+use Rattle.hand_back_check.proofs.Checking.{checking_start, checking_asks, checking_more, checking_end}
 use Rattle.hand_back_check.proofs.check_words.Goals as goal
 
 pub loop-i-init : goal.loop-i-init

@@ -1,8 +1,6 @@
-use borrow.Author.Rules.{rules}
 use Prim.Native.Nat.{◌-◌}
-use native.Mathlib.Omega.{arith}
 use Rattle.hand_back_edges.specs.Looks.{look_in_table}
-use Rattle.hand_back_check.proofs.Checking.{Checking, checking_start, checking_asks, checking_more, checking_end}
+use Rattle.hand_back_check.proofs.Checking.{Checking}
 use Rattle.hand_back_check.proofs.check_words.Given as goal
 
 abbrev pub invariant-loop-i : goal.invariant-loop-i

@@ -1,4 +1,3 @@
-use borrow.Author.Rules.{rules}
 use Rattle.hand_back_check.proofs.Next.{at_home, remote}
 use Rattle.hand_back_check.proofs.count_remote.Goals as goal
 

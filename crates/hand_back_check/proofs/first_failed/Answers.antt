@@ -1,6 +1,4 @@
-use borrow.Author.Rules.{rules}
-use Prim.Native.Nat.{◌-◌}
-use Rattle.hand_back_check.proofs.Failing.{Failing, failing_start, failing_here, failing_more, failing_end, owner}
+use Rattle.hand_back_check.proofs.Failing.{failing_start, failing_here, failing_more, failing_end, owner}
 use Rattle.hand_back_check.proofs.first_failed.Goals as goal
 
 pub loop-i-init : goal.loop-i-init

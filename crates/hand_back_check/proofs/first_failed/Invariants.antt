@@ -1,6 +1,5 @@
-use borrow.Author.Rules.{rules}
 use Prim.Native.Nat.{◌-◌}
-use Rattle.hand_back_check.proofs.Failing.{Failing, failing_start, failing_here, failing_more, failing_end, owner}
+use Rattle.hand_back_check.proofs.Failing.{Failing}
 use Rattle.hand_back_check.proofs.first_failed.Given as goal
 
 abbrev pub invariant-loop-i : goal.invariant-loop-i

@@ -1,5 +1,4 @@
 use Rattle.hand_back_check.proofs.Next.{ticked}
-use borrow.Author.Rules.{rules}
 use Rattle.hand_back_check.proofs.tick_of.Goals as goal
 
 pub returns : goal.returns

@@ -1,4 +1,3 @@
-use borrow.Author.Rules.{rules}
 use Rattle.rules.proofs.Tests.{not_true, not_false}
 use Rattle.hand_back_emission.proofs.Rows.{mismatch, unknown, unrouted, timed, overflow}
 use Rattle.hand_back_emission.proofs.check_emission.Goals as goal

@@ -1,4 +1,3 @@
-use borrow.Author.Rules.{rules}
 use Rattle.hand_back_emission.proofs.Rows.{violation, straggler, in_time}
 use Rattle.hand_back_emission.proofs.check_tick.Goals as goal
 

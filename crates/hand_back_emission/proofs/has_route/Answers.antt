@@ -1,4 +1,3 @@
-use borrow.Author.Rules.{rules}
 use Rattle.hand_back_emission.proofs.Rows.{to_itself, along_edge}
 use Rattle.hand_back_emission.proofs.has_route.Goals as goal
 

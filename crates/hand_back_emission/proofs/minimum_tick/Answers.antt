@@ -1,4 +1,3 @@
-use borrow.Author.Rules.{rules}
 use Rattle.hand_back_emission.proofs.Rows.{own_minimum, far_minimum}
 use Rattle.hand_back_emission.proofs.minimum_tick.Goals as goal
 

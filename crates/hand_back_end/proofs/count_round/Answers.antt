@@ -1,4 +1,3 @@
-use borrow.Author.Rules.{rules}
 use Rattle.hand_back_end.proofs.EndingRound.{counts_are}
 use Rattle.hand_back_end.proofs.count_round.Goals as goal
 

@@ -1,4 +1,3 @@
-use borrow.Author.Rules.{rules}
 use Rattle.hand_back_end.proofs.EndingRound.{ends_spent, ends_committed}
 use Rattle.hand_back_end.proofs.end_round.Goals as goal
 

@@ -1,4 +1,3 @@
-use borrow.Author.Rules.{rules}
 use Rattle.hand_back_end.proofs.EndingRound.{leaves}
 use Rattle.hand_back_end.proofs.poison.Goals as goal
 

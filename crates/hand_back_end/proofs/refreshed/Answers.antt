@@ -1,4 +1,3 @@
-use borrow.Author.Rules.{rules}
 use Rattle.hand_back_end.proofs.EndingRound.{refreshes}
 use Rattle.hand_back_end.proofs.refreshed.Goals as goal
 

@@ -1,4 +1,3 @@
-use borrow.Author.Rules.{rules}
 use Rattle.inbound.proofs.Recording.{lowered}
 use Rattle.inbound.proofs.lower.Goals as goal
 

@@ -1,7 +1,5 @@
 use borrow.Author.Rules.{rules}
-use mathlib.Core.Path.{◌≡◌}
-use lib.ListN.{length}
-use Rattle.inbound.proofs.Recording.{Recording, recording_start, recording_more, recording_end, destination_at}
+use Rattle.inbound.proofs.Recording.{recording_start, recording_more, recording_end, destination_at}
 use Rattle.inbound.proofs.record_inbound.Goals as goal
 
 pub loop-i-init : goal.loop-i-init

@@ -1,7 +1,6 @@
-use borrow.Author.Rules.{rules}
 use mathlib.Core.Path.{◌≡◌}
 use lib.ListN.{length}
-use Rattle.inbound.proofs.Recording.{Recording, recording_start, recording_more, recording_end, destination_at}
+use Rattle.inbound.proofs.Recording.{Recording}
 use Rattle.inbound.proofs.record_inbound.Given as goal
 
 abbrev pub invariant-loop-i : goal.invariant-loop-i

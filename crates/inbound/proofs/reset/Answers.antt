@@ -1,9 +1,5 @@
 use borrow.Author.Rules.{rules}
-use mathlib.Core.Path.{◌≡◌}
-use lib.ListN.{length}
-use Rattle.types.specs.Value.{ticks_of}
-use Rattle.rules.specs.State.{max_tick}
-use Rattle.inbound.proofs.Recording.{Resetting, resetting_start, resetting_more, resetting_end}
+use Rattle.inbound.proofs.Recording.{resetting_start, resetting_more, resetting_end}
 use Rattle.inbound.proofs.reset.Goals as goal
 
 pub loop-p-init : goal.loop-p-init

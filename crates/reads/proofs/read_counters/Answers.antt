@@ -1,4 +1,3 @@
-use borrow.Author.Rules.{rules}
 use Rattle.foreign.proofs.Grouped.{foreign_is}
 use Rattle.reads.proofs.Reading.{counters_foreign, counters_read}
 use Rattle.reads.proofs.read_counters.Goals as goal

@@ -1,4 +1,3 @@
-use borrow.Author.Rules.{rules}
 use Rattle.foreign.proofs.Grouped.{foreign_is}
 use Rattle.reads.proofs.Reading.{can_pass, earliest_foreign, earliest_read}
 use Rattle.reads.proofs.read_earliest.Goals as goal

@@ -1,4 +1,3 @@
-use borrow.Author.Rules.{rules}
 use Rattle.foreign.proofs.Grouped.{foreign_is}
 use Rattle.reads.proofs.Reading.{gvt_foreign, gvt_read}
 use Rattle.reads.proofs.read_gvt.Goals as goal

@@ -1,4 +1,3 @@
-use borrow.Author.Rules.{rules}
 use Rattle.foreign.proofs.Grouped.{foreign_is}
 use Rattle.reads.proofs.Reading.{pending_foreign, pending_read}
 use Rattle.reads.proofs.read_pending.Goals as goal

@@ -1,4 +1,3 @@
-use borrow.Author.Rules.{rules}
 use Rattle.reply_words.proofs.Reading.{emission_read}
 use Rattle.reply_words.proofs.emission_in.Goals as goal
 

@@ -1,4 +1,3 @@
-use borrow.Author.Rules.{rules}
 use mathlib.Core.Path.{refl}
 use Rattle.rules.specs.HandBack.{failed}
 use Rattle.reply_words.proofs.failed.Goals as goal

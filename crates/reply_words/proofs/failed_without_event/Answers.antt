@@ -1,4 +1,3 @@
-use borrow.Author.Rules.{rules}
 use Rattle.reply_words.proofs.Passing.{failed_in, failed_out}
 use Rattle.reply_words.proofs.failed_without_event.Goals as goal
 

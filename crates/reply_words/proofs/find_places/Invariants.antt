@@ -1,8 +1,6 @@
-use borrow.Author.Rules.{rules}
 use mathlib.Core.Path.{◌≡◌}
-use native.Mathlib.Omega.{arith}
 use lib.ListN.{length}
-use Rattle.reply_words.proofs.Table.{owner_next, Placing, empty_length, placing_start, placing_more, placing_end}
+use Rattle.reply_words.proofs.Table.{Placing}
 use Rattle.reply_words.proofs.find_places.Given as goal
 
 abbrev pub invariant-loop-i : goal.invariant-loop-i

@@ -1,4 +1,3 @@
-use borrow.Author.Rules.{rules}
 use Rattle.reply_words.proofs.Passing.{malformed_fallen, malformed_past, malformed_unknown, malformed_failed, malformed_long}
 use Rattle.reply_words.proofs.malformed_emission.Goals as goal
 

@@ -1,4 +1,3 @@
-use borrow.Author.Rules.{rules}
 use native.Mathlib.Omega.{arith}
 use Rattle.state.proofs.Queueing.{exhausted}
 use Rattle.state.proofs.sequence_exhausted.Goals as goal

@@ -1,4 +1,3 @@
-use borrow.Author.Rules.{rules}
 use Rattle.step.proofs.WithoutBatch.{goes_spent, goes_on}
 use Rattle.step.proofs.advance_or_refuse.Goals as goal
 

@@ -1,4 +1,3 @@
-use borrow.Author.Rules.{rules}
 use Rattle.step.proofs.WithoutBatch.{answered_up, answered_none}
 use Rattle.step.proofs.answered.Goals as goal
 

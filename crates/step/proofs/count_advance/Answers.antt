@@ -1,4 +1,3 @@
-use borrow.Author.Rules.{rules}
 use Rattle.step.proofs.count_advance.Goals as goal
 
 pub returns : goal.returns

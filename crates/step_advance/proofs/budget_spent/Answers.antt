@@ -1,4 +1,3 @@
-use borrow.Author.Rules.{rules}
 use Rattle.step_advance.proofs.Advancing.{spends_not, spends_if}
 use Rattle.step_advance.proofs.budget_spent.Goals as goal
 

@@ -1,4 +1,3 @@
-use borrow.Author.Rules.{rules}
 use Rattle.step_advance.proofs.Next.{one_sum, one_over}
 use Rattle.step_advance.proofs.exclusive_horizon.Goals as goal
 

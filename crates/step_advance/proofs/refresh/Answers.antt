@@ -1,4 +1,3 @@
-use borrow.Author.Rules.{rules}
 use Rattle.step_advance.proofs.Refreshing.{refreshes}
 use Rattle.step_advance.proofs.refresh.Goals as goal
 

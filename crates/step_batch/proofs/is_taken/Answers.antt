@@ -1,4 +1,3 @@
-use borrow.Author.Rules.{rules}
 use Rattle.step_batch.proofs.Turns.{no_room, by_tick_holds}
 use Rattle.step_batch.proofs.is_taken.Goals as goal
 

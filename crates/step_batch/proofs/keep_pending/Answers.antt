@@ -1,4 +1,3 @@
-use borrow.Author.Rules.{rules}
 use Rattle.step_batch.proofs.Turns.{keep_moved, keep_here}
 use Rattle.step_batch.proofs.keep_pending.Goals as goal
 

@@ -1,5 +1,4 @@
 use native.Mathlib.Omega.{arith}
-use borrow.Author.Rules.{rules}
 use Rattle.step_batch.proofs.Turns.{owner, place, scanned_seen, scanned_kept, scanned_taken}
 use Rattle.step_batch.proofs.scan_event.Goals as goal
 

@@ -1,10 +1,9 @@
-use borrow.Author.Rules.{rules}
 use Prim.Native.Nat.{◌-◌}
 use mathlib.Core.Path.{◌≡◌}
 use lib.ListN.{length}
 use Rattle.types.specs.Value.{ticks_of}
 use Rattle.inbound.specs.Inbound.{frontier_in}
-use Rattle.step_batch.proofs.Turns.{Scanning, scanning_start, scanning_more, scanning_end, scannable_at}
+use Rattle.step_batch.proofs.Turns.{Scanning}
 use Rattle.step_batch.proofs.take_batch.Given as goal
 
 abbrev pub invariant-loop-i : goal.invariant-loop-i

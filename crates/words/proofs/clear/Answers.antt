@@ -1,8 +1,7 @@
 use native.Mathlib.Omega.{arith}
-use Prim.Native.Nat.{◌≤◌, ◌-◌}
-use mathlib.Core.Path.{◌≡◌, refl}
-use lib.ListN.{length, length-set}
-use Rattle.words.proofs.Places.{clearing, clearing_more, clearing_end}
+use mathlib.Core.Path.{refl}
+use lib.ListN.{length-set}
+use Rattle.words.proofs.Places.{clearing_more, clearing_end}
 use Rattle.words.proofs.clear.Goals as goal
 
 pub loop-i-init : goal.loop-i-init

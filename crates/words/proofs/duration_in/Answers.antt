@@ -1,4 +1,3 @@
-use borrow.Author.Rules.{rules}
 use Rattle.words.specs.Words.{tick_at}
 use Rattle.words.proofs.duration_in.Goals as goal
 

@@ -1,8 +1,7 @@
 use native.Mathlib.Omega.{arith}
-use Prim.Native.Nat.{◌≤◌, ◌-◌}
-use mathlib.Core.Path.{◌≡◌, refl, ◌∙◌, ap}
+use mathlib.Core.Path.{refl, ◌∙◌, ap}
 use lib.ListN.{length}
-use Rattle.words.proofs.Ticks.{filling, length_put, filling_more, filling_end}
+use Rattle.words.proofs.Ticks.{length_put, filling_more, filling_end}
 use Rattle.words.proofs.fill.Goals as goal
 
 pub loop-i-init : goal.loop-i-init

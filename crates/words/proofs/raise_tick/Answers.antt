@@ -1,6 +1,5 @@
 use native.Mathlib.Omega.{arith}
 use Prim.Native.Nat.{◌+◌}
-use borrow.Author.Rules.{rules}
 use Rattle.words.proofs.Ticks.{lower_rises, lower_no_rise, upper_rises, upper_no_rise}
 use Rattle.words.proofs.raise_tick.Goals as goal
 

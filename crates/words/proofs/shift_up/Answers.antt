@@ -1,8 +1,7 @@
 use native.Mathlib.Omega.{arith}
-use Prim.Native.Nat.{◌≤◌}
 use mathlib.Core.Path.{◌≡◌, refl, sym, ◌∙◌}
-use lib.ListN.{length, length-set}
-use Rattle.words.proofs.Shift.{partway, partway_start, partway_end, shift_more}
+use lib.ListN.{length-set}
+use Rattle.words.proofs.Shift.{partway_start, partway_end, shift_more}
 use Rattle.words.proofs.shift_up.Goals as goal
 
 pub loop-i-init : goal.loop-i-init

@@ -1,8 +1,7 @@
-use native.Mathlib.Omega.{arith}
 use Prim.Native.Nat.{◌≤◌}
-use mathlib.Core.Path.{◌≡◌, refl, sym, ◌∙◌}
-use lib.ListN.{length, length-set}
-use Rattle.words.proofs.Shift.{partway, partway_start, partway_end, shift_more}
+use mathlib.Core.Path.{◌≡◌}
+use lib.ListN.{length}
+use Rattle.words.proofs.Shift.{partway}
 use Rattle.words.proofs.shift_up.Given as goal
 
 abbrev pub invariant-loop-i : goal.invariant-loop-i

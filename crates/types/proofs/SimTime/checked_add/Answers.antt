@@ -1,6 +1,5 @@
 use Prim.Native.Nat.{◌+◌, ◌-◌, ◌^◌}
 use native.Mathlib.Omega.{arith}
-use borrow.Author.Rules.{rules}
 use Rattle.types.proofs.Halves.{halves_sum, halves_over}
 use Rattle.types.proofs.SimTime.checked_add.Goals as goal
 

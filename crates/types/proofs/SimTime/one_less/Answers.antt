@@ -1,5 +1,4 @@
 use native.Mathlib.Omega.{arith}
-use borrow.Author.Rules.{rules}
 use Rattle.types.proofs.Halves.{less_lower, less_borrow, less_none}
 use Rattle.types.proofs.SimTime.one_less.Goals as goal
 
