@@ -1,4 +1,3 @@
-use borrow.Author.Rules.{rules}
 use Rattle.rules.proofs.Tests.{not_true, not_false}
 use Rattle.host_hand_back.proofs.Closing.{admission_stopped, admission_checked}
 use Rattle.host_hand_back.proofs.admit.Goals as goal

@@ -1,4 +1,3 @@
-use borrow.Author.Rules.{rules}
 use Rattle.host_hand_back.proofs.Opening.{ready, opens_foreign, opens_tabled}
 use Rattle.host_hand_back.proofs.begin.Goals as goal
 

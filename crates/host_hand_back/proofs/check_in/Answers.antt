@@ -1,4 +1,3 @@
-use borrow.Author.Rules.{rules}
 use Rattle.host_hand_back.proofs.Passing.{checks_next}
 use Rattle.host_hand_back.proofs.check_in.Goals as goal
 

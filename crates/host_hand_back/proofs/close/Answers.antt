@@ -1,4 +1,3 @@
-use borrow.Author.Rules.{rules}
 use Rattle.rules.proofs.Tests.{not_true, not_false}
 use Rattle.host_hand_back.proofs.Closing.{closes_as_given, closes_committed, closes_poisoned}
 use Rattle.host_hand_back.proofs.close.Goals as goal

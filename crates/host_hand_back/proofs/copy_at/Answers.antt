@@ -1,7 +1,4 @@
-use borrow.Author.Rules.{rules}
-use Prim.Native.Nat.{◌-◌}
-use lib.ListN.{length}
-use Rattle.host_hand_back.proofs.Filling.{Copying, copying_start, copying_more, copying_end}
+use Rattle.host_hand_back.proofs.Filling.{copying_start, copying_more, copying_end}
 use Rattle.host_hand_back.proofs.copy_at.Goals as goal
 
 pub loop-i-init : goal.loop-i-init

@@ -1,7 +1,6 @@
-use borrow.Author.Rules.{rules}
 use Prim.Native.Nat.{◌-◌}
 use lib.ListN.{length}
-use Rattle.host_hand_back.proofs.Filling.{Copying, copying_start, copying_more, copying_end}
+use Rattle.host_hand_back.proofs.Filling.{Copying}
 use Rattle.host_hand_back.proofs.copy_at.Given as goal
 
 abbrev pub invariant-loop-i : goal.invariant-loop-i

@@ -1,4 +1,3 @@
-use borrow.Author.Rules.{rules}
 use Rattle.rules.proofs.Tests.{not_true, not_false}
 use Rattle.host_hand_back.proofs.Passing.{enqueues_nothing, enqueues_one}
 use Rattle.host_hand_back.proofs.enqueue_in.Goals as goal
