@@ -1,7 +1,4 @@
-use native.Mathlib.Omega.{arith}
-use mathlib.Core.Path.{◌≡◌}
-use lib.ListN.{length}
-use borrow.Author.Rules.{rules}
+use Rattle.std.proofs.Common.{◌≡◌, length}
 use Rattle.call_session.proofs.execute_calls.Given as goal
 
 abbrev pub invariant-loop-left : goal.invariant-loop-left
