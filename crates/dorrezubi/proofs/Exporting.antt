@@ -1,15 +1,13 @@
 -- What each return of the export gives.
-use mathlib.Core.Path.{◌≡◌, sym, ap, subst, ◌∙◌}
+use mathlib.Core.Path.{◌≡◌, sym, ap, ◌∙◌}
 use mathlib.Core.List.{List}
 use Prim.Native.Nat.{ℕ, ◌≤◌, ◌<◌}
 use native.Mathlib.Omega.{arith}
-use Rattle.plan_file.specs.Plan.{Plan}
 use Rattle.plan_file.specs.File.{Answer, contents, decode, number_of}
 use Rattle.plan_file.specs.Checks.{Checks}
 use Rattle.plan_file.specs.declared.Parts.{Parts}
 use Rattle.plan_file.proofs.Numbers.{Contents, contents_of, refused_of}
-use Rattle.plan_rules.specs.Listing.{Rehearsal, rehearsed}
-use Rattle.plan_rules.specs.Export.{exported, exported_of, handed_over}
+use Rattle.plan_rules.specs.Export.{exported, exported_of}
 use Rattle.plan_rules.proofs.Exports.{exported_unread}
 use Rattle.plan_round.specs.Reached.{contents_of_file, plan_of}
 use Rattle.plan_rehearsal.specs.Rehearses.{Checked, Rehearses}

@@ -1,20 +1,19 @@
 -- What each end of a rehearsal hands over.
 use mathlib.Core.Path.{◌≡◌, refl, sym, ap, subst, ◌∙◌}
 use mathlib.Core.Bool.{Bool, true, false, not, ◌||◌}
-use mathlib.Core.List.{List, [], ◌∷◌, ◌++◌}
-use Prim.Native.Nat.{ℕ, suc, ◌+◌, ◌*◌, ◌-◌, ◌≤◌, ◌<◌}
+use mathlib.Core.List.{List, [], ◌++◌}
+use Prim.Native.Nat.{ℕ, ◌≤◌, ◌<◌}
 use native.Mathlib.Omega.{arith}
 use lib.Dec.{leb, ltb, eqb}
 use lib.ListN.{length}
 use borrow.Author.Tests.{leb-true, leb-false, ltb-false, lt-ltb, le-ltb}
 use Rattle.types.specs.Value.{halves, ticks_of}
 use Rattle.words.specs.Words.{zeroes}
-use Rattle.rules.specs.Base.{if◌then◌else◌, none, some}
+use Rattle.rules.specs.Base.{if◌then◌else◌}
 use Rattle.rules.specs.State as R
-use Rattle.rules.specs.Answers as A
-use Rattle.rules.specs.Answers.{Accepted, Refused, Refusal, refusal_number, number}
+use Rattle.rules.specs.Answers.{Accepted, refusal_number, number}
 use Rattle.rules.specs.Build.{BuildOut, build}
-use Rattle.rules.proofs.Tests.{by_bool, or_left, or_right}
+use Rattle.rules.proofs.Tests.{by_bool, or_right}
 use Rattle.state.specs.declared.Header.{Header}
 use Rattle.state.specs.declared.Counters.{Counters}
 use Rattle.state.specs.View.{zero_counters}
@@ -24,9 +23,9 @@ use Rattle.plan_rules.specs.Setup.{setup_of, too_long}
 use Rattle.plan_rules.specs.Run.{ran}
 use Rattle.plan_rules.specs.Listing
 use Rattle.plan_rules.specs.Listing.{Rehearsal, listed, end_line, listing, once_built, rehearsed}
-use Rattle.plan_rules.specs.Laws.{turned_away, standing}
-use Rattle.plan_rules.specs.Export.{Exported, written, cleared, handed_over}
-use Rattle.plan_rules.proofs.Exports.{by_build, rehearsed_refused, rehearsed_long, rehearsed_ran}
+use Rattle.plan_rules.specs.Laws.{standing}
+use Rattle.plan_rules.specs.Export.{handed_over}
+use Rattle.plan_rules.proofs.Exports.{by_build, rehearsed_refused, rehearsed_ran}
 use Rattle.plan_rules.proofs.Builds.{builds}
 use Rattle.plan_rules.proofs.RefusalNumbers.{numbered}
 use Rattle.plan_text.specs.Appends.{Listed, Holds}

@@ -1,11 +1,11 @@
 -- What each part of a rehearsal asks of the next, from what the file is known to be.
-use mathlib.Core.Path.{◌≡◌, refl, sym, ap, subst, ◌∙◌}
+use mathlib.Core.Path.{◌≡◌, refl, sym, ap, ◌∙◌}
 use mathlib.Core.Bool.{Bool, true, false}
-use mathlib.Core.List.{List, [], ◌∷◌, ◌++◌, map, append-nil}
-use Prim.Native.Nat.{ℕ, suc, ◌+◌, ◌*◌, ◌-◌, ◌≤◌, ◌<◌}
+use mathlib.Core.List.{List, ◌++◌, append-nil}
+use Prim.Native.Nat.{ℕ, ◌+◌, ◌*◌, ◌-◌, ◌≤◌}
 use native.Mathlib.Omega.{arith}
 use lib.Dec.{leb}
-use lib.ListN.{length, take, drop, get_or, drop_of_length-le}
+use lib.ListN.{length, take, drop, drop_of_length-le}
 use lib.Seq.{length-take-le}
 use Rattle.bits.specs.Bytes.{stream}
 use Rattle.types.specs.declared.SimDuration.{SimDuration}
@@ -20,15 +20,14 @@ use Rattle.rules.proofs.Demand.{sound_built}
 use Rattle.state.specs.declared.Header.{Header}
 use Rattle.build_topology.specs.Lookaheads.{lookaheads_for}
 use Rattle.build.specs.declared.BuildAnswer.{BuildAnswer}
-use Rattle.build.specs.Checks.{answer_of, ChecksBuild}
+use Rattle.build.specs.Checks.{ChecksBuild}
 use Rattle.build.specs.Numbers.{number_of}
 use Rattle.build.specs.Initialized.{CanInitialize, Initializes}
 use Rattle.build.proofs.Initializing as making
 use Rattle.build.proofs.Numbering.{numbered}
-use Rattle.plan_file.specs.Plan.{PlanEdge, Plan}
 use Rattle.plan_file.specs.Format.{Got.got, gets}
 use Rattle.plan_file.specs.Grammar.{edge}
-use Rattle.plan_file.specs.Events.{emission_count, event_count}
+use Rattle.plan_file.specs.Events.{event_count}
 use Rattle.plan_file.specs.declared.Parts.{Parts}
 use Rattle.plan_file.proofs.Numbers.{decoded}
 use Rattle.plan_file.proofs.Files.{widths}
@@ -36,7 +35,6 @@ use Rattle.plan_file.proofs.Events.{few_events}
 use Rattle.plan_reader.specs.declared.PlanHeader.{PlanHeader}
 use Rattle.plan_reader.specs.Read.{HeaderRead}
 use Rattle.plan_rules.specs.Setup.{setup_of, least_lookahead_of, too_long}
-use Rattle.plan_rules.specs.Run.{enough}
 use Rattle.plan_rules.specs.Laws.{standing}
 use Rattle.plan_rules.proofs.Ends.{positive}
 use Rattle.plan_rules.proofs.Limits.{limits}
@@ -48,7 +46,7 @@ use Rattle.plan_run.specs.Opens.{Begun}
 use Rattle.plan_run.specs.RunsBuilt.{Built, InitialAt, Repliable}
 use Rattle.plan_rehearsal.specs.Rehearses.{Checked, early_number}
 use Rattle.plan_rehearsal.proofs.Rehearsing.{Early, early_passed}
-use Rattle.plan_rehearsal.specs.Setups.{Known, CanMakeRows, IsSetup, CanRun}
+use Rattle.plan_rehearsal.specs.Setups.{Known, CanMakeRows, IsSetup}
 
 -- The file.
 module _ (s : List ℕ) (parts : Parts) (i : Checked s parts) where

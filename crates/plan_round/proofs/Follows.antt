@@ -1,24 +1,24 @@
 -- What the host does after a step and after a hand back, told by the batch in hand, the run that is open, and the answer's number.
 use mathlib.Core.Path.{◌≡◌, refl, sym, ap, ◌∙◌}
-use mathlib.Core.Bool.{Bool, true, false, ◌&&◌, ◌||◌}
-use mathlib.Core.List.{List, [], ◌∷◌, ◌++◌}
-use Prim.Native.Nat.{ℕ, suc, ◌<◌}
+use mathlib.Core.Bool.{true, false, ◌||◌}
+use mathlib.Core.List.{List, [], ◌∷◌}
+use Prim.Native.Nat.{ℕ, ◌<◌}
 use native.Mathlib.Omega.{arith}
 use lib.Dec.{eqb}
 use borrow.Author.Tests.{ne_eqb}
-use Rattle.rules.specs.Base.{if◌then◌else◌, Maybe, none, some, non_empty}
-use Rattle.rules.specs.State.{Event, State, Counters, Stored}
-use Rattle.rules.specs.Answers.{Answer, Accepted, Batch, Advanced, Finished, Committed, Read, Planned, Refused, Refusal, refusal_number, number}
-use Rattle.rules.specs.Rows.{Out, out, refuse}
+use Rattle.rules.specs.Base.{if◌then◌else◌, none, some, non_empty}
+use Rattle.rules.specs.State.{Event, State, Counters}
+use Rattle.rules.specs.Answers.{Batch, Advanced, Finished, Committed, Refused, Refusal, refusal_number, number}
+use Rattle.rules.specs.Rows.{Out, out}
 use Rattle.rules.specs.Refresh.{refreshed}
 use Rattle.rules.specs.Foreign.{foreign}
 use Rattle.rules.specs.Step.{step}
 use Rattle.rules.specs.HandBack.{Emission, hand_back}
-use Rattle.rules.specs.Calls.{Call, Step, HandBack}
-use Rattle.rules.specs.History.{Entry, is_initial, is_hand_back, is_committed, is_batch, events, in_hand, commits}
+use Rattle.rules.specs.Calls.{Step, HandBack}
+use Rattle.rules.specs.History.{Entry, is_hand_back, is_committed, is_batch, events, in_hand, commits}
 use Rattle.rules.proofs.Cases.{by_step, by_back}
 use Rattle.rules.proofs.Counts.{entry_of}
-use Rattle.plan_file.specs.Plan.{Plan, Reply}
+use Rattle.plan_file.specs.Plan.{Plan}
 use Rattle.plan_rules.specs.Host.{due, left, after, next}
 use Rattle.plan_rules.proofs.RefusalNumbers.{numbered}
 

@@ -11,7 +11,6 @@ use Rattle.rules.specs.State as R
 use Rattle.rules.specs.State.{State}
 use Rattle.rules.specs.Answers.{number}
 use Rattle.rules.specs.Rows.{Out, out}
-use Rattle.rules.specs.Step.{step}
 use Rattle.rules.specs.HandBack.{Emission}
 use Rattle.rules.specs.Calls.{Step, HandBack, rule}
 use Rattle.rules.specs.History.{entry, commits}

@@ -1,7 +1,7 @@
 -- Where a plan's run has come to after k calls of its host.
 use Rattle.std.specs.Prelude.{◌≡◌, List, [], ℕ, ◌*◌, ◌≤◌, length}
 use Rattle.bits.specs.Bytes.{stream}
-use Rattle.rules.specs.Base.{none, some}
+use Rattle.rules.specs.Base.{some}
 use Rattle.rules.specs.State as R
 use Rattle.rules.specs.Answers.{Accepted}
 use Rattle.rules.specs.Build.{build}
@@ -16,7 +16,7 @@ use Rattle.plan_file.specs.File.{Answer, refused, contents, decode}
 use Rattle.plan_rules.specs.Setup.{setup_of}
 use Rattle.plan_rules.specs.Host.{due, left, next}
 use Rattle.plan_rules.specs.Run.{run, enough}
-use Rattle.plan_rules.specs.Listing.{handled_lines, last_number}
+use Rattle.plan_rules.specs.Listing.{handled_lines}
 use Rattle.plan_text.specs.Appends.{Listed}
 use Rattle.plan_replies.specs.Table.{Table}
 

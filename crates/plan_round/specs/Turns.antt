@@ -1,8 +1,6 @@
 -- What a turn of the host promises: it has come further along the plan's run.
 use Rattle.std.specs.Prelude.{◌≡◌, true, false, List, ℕ, ◌<◌}
-use Rattle.rules.specs.Base.{none, some}
-use Rattle.state.specs.declared.Header.{Header}
-use Rattle.state.specs.declared.Counters.{Counters}
+use Rattle.rules.specs.Base.{none}
 use Rattle.plan_rules.specs.Host.{next}
 use Rattle.plan_rules.specs.Run.{run}
 use Rattle.plan_rules.specs.Listing.{last_number}

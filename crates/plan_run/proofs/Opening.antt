@@ -2,20 +2,18 @@
 use mathlib.Core.Path.{◌≡◌, refl, sym, ap, subst, ◌∙◌}
 use mathlib.Core.Bool.{true, false}
 use mathlib.Core.List.{List, [], ◌∷◌}
-use Prim.Native.Nat.{ℕ, zero, suc, ◌+◌, ◌*◌, ◌≤◌, ◌<◌}
+use Prim.Native.Nat.{ℕ, suc, ◌+◌, ◌*◌, ◌≤◌, ◌<◌}
 use native.Mathlib.Omega.{arith}
 use lib.ListN.{length, get_or, drop}
 use lib.Seq.{drop-cons}
 use Rattle.bits.specs.Bytes.{stream}
 use Rattle.types.specs.declared.SimTime.{SimTime}
-use Rattle.types.specs.Value.{ticks_of}
 use Rattle.words.specs.Words.{zeroes}
 use Rattle.rules.specs.Base.{none, some}
 use Rattle.rules.specs.State as R
 use Rattle.rules.specs.State.{State}
 use Rattle.rules.specs.Answers.{Accepted, Refused, Refusal, number}
-use Rattle.rules.specs.Rows.{Out, out, refuse}
-use Rattle.rules.specs.Build.{built, build}
+use Rattle.rules.specs.Rows.{Out, out}
 use Rattle.rules.specs.Initial.{add_initial}
 use Rattle.rules.specs.Begin.{begin}
 use Rattle.rules.specs.Calls.{Call, AddInitial, Begin, Step, rule}
@@ -24,7 +22,6 @@ use Rattle.rules.proofs.Cases.{by_initial, by_begin}
 use Rattle.rules.proofs.Counts.{entry_of}
 use Rattle.records.specs.Records.{events_of}
 use Rattle.state.specs.declared.Header.{Header}
-use Rattle.state.specs.declared.Message.{Message}
 use Rattle.state.specs.declared.CoreResult.{CoreResult}
 use Rattle.state.specs.declared.HeaderResult.{HeaderResult}
 use Rattle.state.specs.View.{view, counters_of, zero_counters, message_of, answer_of}
@@ -37,7 +34,6 @@ use Rattle.plan_file.specs.Plan.{Plan}
 use Rattle.plan_file.specs.Grammar.{message}
 use Rattle.plan_file.specs.Standing.{Standing, IsGot}
 use Rattle.plan_file.proofs.Stands.{after_first, first_stands, others_stand}
-use Rattle.plan_rules.specs.Setup.{setup_of}
 use Rattle.plan_rules.specs.Host.{left, opening, next}
 use Rattle.plan_rules.specs.Run.{run}
 use Rattle.plan_rules.specs.Listing.{handled_lines, last_number}
@@ -46,7 +42,7 @@ use Rattle.plan_rules.proofs.Loop.{lines_same, commits_other, opening_adds, open
 use Rattle.plan_rules.proofs.Payloads.{long_payloads}
 use Rattle.plan_reader.specs.declared.MessageAt.{MessageAt}
 use Rattle.plan_reader.specs.Read.{MessageRead}
-use Rattle.plan_round.specs.Reached.{plan_of, Reached}
+use Rattle.plan_round.specs.Reached.{plan_of}
 use Rattle.plan_rules.proofs.RefusalNumbers as refusals
 use Rattle.plan_round.proofs.Onward.{reached_next, entries_next, number_next}
 use Rattle.plan_run.specs.declared.Opened.{Opened}

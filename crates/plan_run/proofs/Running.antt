@@ -1,5 +1,5 @@
 -- Turn after turn until the host has no next call.
-use mathlib.Core.Path.{◌≡◌, sym, ap, ◌∙◌}
+use mathlib.Core.Path.{◌≡◌, sym}
 use mathlib.Core.Bool.{Bool, true, false}
 use mathlib.Core.List.{List, ◌++◌}
 use Prim.Native.Nat.{ℕ, ◌-◌, ◌≤◌, ◌<◌}
@@ -10,7 +10,7 @@ use borrow.Author.Tests.{ltb-true, ltb-false}
 use Rattle.types.specs.Value.{ticks_of}
 use Rattle.rules.specs.State as R
 use Rattle.rules.proofs.Tests.{by_bool}
-use Rattle.plan_rules.specs.Run.{run, enough}
+use Rattle.plan_rules.specs.Run.{enough}
 use Rattle.plan_rules.specs.Listing.{end_line}
 use Rattle.plan_rules.proofs.Ends.{ends}
 use Rattle.plan_text.specs.Appends.{Appends, Listed, Finishes, Holds}

@@ -1,29 +1,29 @@
 -- The whole run: from what build made to the listing.
 use mathlib.Core.Path.{◌≡◌, refl, sym, ap, subst, ◌∙◌}
-use mathlib.Core.Bool.{Bool, true, false}
-use mathlib.Core.List.{List, [], ◌∷◌, ◌++◌}
-use Prim.Native.Nat.{ℕ, zero, suc, ◌+◌, ◌*◌, ◌≤◌, ◌<◌}
+use mathlib.Core.Bool.{Bool}
+use mathlib.Core.List.{List, ◌++◌}
+use Prim.Native.Nat.{ℕ, ◌≤◌, ◌<◌}
 use native.Mathlib.Omega.{arith}
 use lib.Dec.{eqb}
-use lib.ListN.{length, drop}
+use lib.ListN.{length}
 use borrow.Author.Tests.{eqb-true, eqb-false}
 use Rattle.bits.specs.Bytes.{stream}
 use Rattle.types.specs.Value.{ticks_of}
 use Rattle.words.specs.Words.{zeroes}
-use Rattle.rules.specs.Base.{none, some, count}
+use Rattle.rules.specs.Base.{count}
 use Rattle.rules.specs.State as R
 use Rattle.rules.specs.State.{State}
 use Rattle.rules.specs.Foreign.{foreign}
-use Rattle.rules.specs.History.{History, initials}
+use Rattle.rules.specs.History.{initials}
 use Rattle.rules.proofs.Tests.{by_bool}
 use Rattle.rules.proofs.Shape.{passes_11}
 use Rattle.rules.proofs.Built.{makes}
 use Rattle.state.specs.declared.Header.{Header}
 use Rattle.state.specs.declared.Counters.{Counters}
-use Rattle.state.specs.View.{view, zero_counters}
+use Rattle.state.specs.View.{zero_counters}
 use Rattle.plan_file.specs.Plan.{Plan, Reply}
 use Rattle.plan_rules.specs.Setup.{setup_of}
-use Rattle.plan_rules.specs.Host.{left, next}
+use Rattle.plan_rules.specs.Host.{left}
 use Rattle.plan_rules.specs.Run.{run, ran}
 use Rattle.plan_rules.specs.Listing.{handled_lines, end_line, last_number, listing}
 use Rattle.plan_rules.proofs.Ends.{ends}
@@ -32,11 +32,11 @@ use Rattle.plan_text.specs.Appends.{Listed, Holds}
 use Rattle.plan_text.proofs.Appending.{listed_none}
 use Rattle.plan_replies.specs.Table.{Table}
 use Rattle.plan_round.specs.declared.Turn.{Turn}
-use Rattle.plan_round.specs.Reached.{plan_of, Reached, Stepping}
+use Rattle.plan_round.specs.Reached.{plan_of, Reached}
 use Rattle.plan_round.specs.Turns.{Came}
 use Rattle.plan_round.proofs.Follows.{true_not_false}
 use Rattle.plan_run.specs.declared.Opened.{Opened}
-use Rattle.plan_run.specs.Opens.{Before, Adding, Opens}
+use Rattle.plan_run.specs.Opens.{Adding, Opens}
 use Rattle.plan_run.specs.Ends.{Ended, EndsWith}
 use Rattle.plan_run.specs.RunsBuilt.{Built, InitialAt, Repliable, RunsBuilt}
 

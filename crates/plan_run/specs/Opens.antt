@@ -13,7 +13,7 @@ use Rattle.plan_file.specs.Plan.{Plan}
 use Rattle.plan_file.specs.Grammar.{message}
 use Rattle.plan_file.specs.Standing.{Standing}
 use Rattle.plan_rules.specs.Host.{left, opening, next}
-use Rattle.plan_rules.specs.Run.{run, enough}
+use Rattle.plan_rules.specs.Run.{run}
 use Rattle.plan_rules.specs.Listing.{handled_lines, last_number}
 use Rattle.plan_round.specs.Reached.{plan_of, Reached}
 use Rattle.plan_run.specs.declared.Opened.{Opened}

@@ -1,7 +1,6 @@
 -- The run of a plan that build accepted.
 use Rattle.std.specs.Prelude.{◌≡◌, Bool, List, ℕ, ◌*◌, ◌≤◌, ◌<◌, length}
 use Rattle.bits.specs.Bytes.{stream}
-use Rattle.types.specs.declared.SimTime.{SimTime}
 use Rattle.words.specs.Words.{zeroes}
 use Rattle.rules.specs.State as R
 use Rattle.rules.specs.Answers.{Accepted}
@@ -18,7 +17,6 @@ use Rattle.plan_rules.specs.Listing.{listing}
 use Rattle.plan_text.specs.Appends.{Holds}
 use Rattle.plan_replies.specs.Table.{Table}
 use Rattle.plan_round.specs.Reached.{plan_of}
-use Rattle.plan_run.specs.Opens.{Begun}
 
 -- The header, the edges and the processes are what build made of the plan.
 pub record Built (p : Plan) (h : Header) (edges processes : List ℕ) : Type 0 where

@@ -1,9 +1,6 @@
 use Rattle.dorrezubi.proofs.dorrezubi_run_plan.Goals as goal
 -- `dorrezubi::dorrezubi_run_plan` meets its contract.
-use borrow.Author.Rules.{rules}
 use Rattle.dorrezubi.proofs.Exporting.{unread, checked, exports}
-use Rattle.dorrezubi.proofs.dorrezubi_run_plan.Statement.{statement}
-use Rattle.dorrezubi.proofs.dorrezubi_run_plan.Tie as tie
 
 -- src/lib.rt:11:9
 pub returns-then-parts-gt0 : goal.returns-then-parts-gt0

@@ -1,9 +1,6 @@
 use Rattle.plan_rehearsal.proofs.early_number.Goals as goal
 -- `plan_rehearsal::early_number` meets its contract.
 use Rattle.plan_rehearsal.proofs.Rehearsing.{early_1, early_2, early_5, early_0}
-use borrow.Author.Rules.{rules}
-use Rattle.plan_rehearsal.proofs.early_number.Statement.{statement}
-use Rattle.plan_rehearsal.proofs.early_number.Tie as tie
 
 -- src/lib.rt:48:9
 pub returns-then-invalid_process_count : goal.returns-then-invalid_process_count

@@ -1,9 +1,6 @@
 use Rattle.plan_rehearsal.proofs.refuse.Goals as goal
 -- `plan_rehearsal::refuse` meets its contract.
-use borrow.Author.Rules.{rules}
 use Rattle.plan_rehearsal.proofs.Rehearsing.{refusal_line}
-use Rattle.plan_rehearsal.proofs.refuse.Statement.{statement}
-use Rattle.plan_rehearsal.proofs.refuse.Tie as tie
 
 -- src/lib.rt:28:1
 pub returns : goal.returns

@@ -8,8 +8,6 @@ use lib.Seq.{length-take-le}
 use Rattle.plan_reader.proofs.Headers.{header_room}
 use Rattle.plan_rehearsal.proofs.Rehearsing.{early_refused, fallen_refused, by_rehearsal, falls, stands}
 use Rattle.plan_rehearsal.proofs.Setting.{short_file, few_there, edges_room, known_of, passed_early, early_is, stands_is, can_make_rows}
-use Rattle.plan_rehearsal.proofs.rehearse.Statement.{statement}
-use Rattle.plan_rehearsal.proofs.rehearse.Tie as tie
 
 -- src/lib.rt:162:9
 pub header-header-requires : goal.header-header-requires

@@ -3,8 +3,6 @@ use Rattle.plan_rehearsal.proofs.rehearse_accepted.Goals as goal
 use borrow.Author.Rules.{rules}
 use Rattle.plan_rehearsal.proofs.Rehearsing.{ran_over}
 use Rattle.plan_rehearsal.proofs.Setting.{can_initialize, can_find, built_is, begun, initial_at, repliable}
-use Rattle.plan_rehearsal.proofs.rehearse_accepted.Statement.{statement}
-use Rattle.plan_rehearsal.proofs.rehearse_accepted.Tie as tie
 
 -- src/lib.rt:74:9
 pub initialize-built-requires : goal.initialize-built-requires

@@ -2,11 +2,8 @@ use Rattle.plan_rehearsal.proofs.rehearse_rows.Goals as goal
 -- `plan_rehearsal::rehearse_rows` meets its contract.
 use borrow.Author.Rules.{rules}
 use mathlib.Core.Path.{sym}
-use native.Mathlib.Omega.{arith}
 use lib.Seq.{length-take-le}
 use Rattle.plan_rehearsal.proofs.Setting.{few_processes, rowable, is_setup}
-use Rattle.plan_rehearsal.proofs.rehearse_rows.Statement.{statement}
-use Rattle.plan_rehearsal.proofs.rehearse_rows.Tie as tie
 
 -- src/lib.rt:144:9
 pub put_rows-rows-requires : goal.put_rows-rows-requires

@@ -1,13 +1,10 @@
 use Rattle.plan_rehearsal.proofs.rehearse_setup.Goals as goal
 -- `plan_rehearsal::rehearse_setup` meets its contract.
-use borrow.Author.Rules.{rules}
-use mathlib.Core.Path.{refl, sym, ◌∙◌}
+use mathlib.Core.Path.{sym, ◌∙◌}
 use native.Mathlib.Omega.{arith}
 use Rattle.plan_rules.proofs.Exports.{rehearsed_long}
 use Rattle.plan_rehearsal.proofs.Rehearsing.{build_refused, build_accepted, by_rehearsal, hands_zeros}
 use Rattle.plan_rehearsal.proofs.Setting.{build_number_is, long_is, all_cleared}
-use Rattle.plan_rehearsal.proofs.rehearse_setup.Statement.{statement}
-use Rattle.plan_rehearsal.proofs.rehearse_setup.Tie as tie
 
 -- src/lib.rt:117:9
 pub returns-then-number-gt0 : goal.returns-then-number-gt0

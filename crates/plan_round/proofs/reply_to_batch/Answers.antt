@@ -5,8 +5,6 @@ use mathlib.Core.Path.{refl, sym}
 use lib.Seq.{length-take-le}
 use Rattle.hand_back_emission.proofs.InHand.{findable}
 use borrow.Author.Rules.{rules}
-use Rattle.plan_round.proofs.reply_to_batch.Statement.{statement}
-use Rattle.plan_round.proofs.reply_to_batch.Tie as tie
 use Rattle.plan_round.proofs.Onward.{few_calls}
 use Rattle.plan_round.proofs.Replied.{can_reply, turned_back}
 

@@ -2,8 +2,6 @@ use Rattle.plan_round.proofs.take_turn.Goals as goal
 -- `plan_round::take_turn` meets its contract.
 use native.Mathlib.Omega.{arith}
 use borrow.Author.Rules.{rules}
-use Rattle.plan_round.proofs.take_turn.Statement.{statement}
-use Rattle.plan_round.proofs.take_turn.Tie as tie
 use Rattle.plan_round.proofs.Onward.{few_calls}
 use Rattle.plan_round.proofs.Stepped.{holding, turned_step}
 use Rattle.plan_round.proofs.Turned.{turned_later}

@@ -1,15 +1,9 @@
 use Rattle.plan_run.proofs.add_initials.Goals as goal
 -- `plan_run::add_initials` meets its contract.
-use Prim.Native.Nat.{◌-◌}
-use mathlib.Core.Path.{◌≡◌, refl, ◌∙◌}
+use mathlib.Core.Path.{◌≡◌, refl}
 use native.Mathlib.Omega.{arith}
-use lib.ListN.{length}
 use borrow.Author.Rules.{rules}
-use Rattle.plan_round.specs.Reached.{plan_of}
-use Rattle.plan_run.specs.Opens.{Adding}
 use Rattle.plan_run.proofs.Opening.{can_add, event_there, adding_more, adding_refused, all_added}
-use Rattle.plan_run.proofs.add_initials.Statement.{statement}
-use Rattle.plan_run.proofs.add_initials.Tie as tie
 
 -- src/lib.rt:35:5
 pub loop-calls-init : goal.loop-calls-init

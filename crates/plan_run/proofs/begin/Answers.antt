@@ -1,9 +1,6 @@
 use Rattle.plan_run.proofs.begin.Goals as goal
 -- `plan_run::begin` meets its contract.
 use native.Mathlib.Omega.{arith}
-use borrow.Author.Rules.{rules}
-use Rattle.plan_run.proofs.begin.Statement.{statement}
-use Rattle.plan_run.proofs.begin.Tie as tie
 use Rattle.plan_run.proofs.Opening.{opened_run, not_opened}
 
 -- src/lib.rt:72:9

@@ -1,9 +1,6 @@
 use Rattle.plan_run.proofs.end_listing.Goals as goal
 -- `plan_run::end_listing` meets its contract.
-use borrow.Author.Rules.{rules}
 use Rattle.plan_run.proofs.Running.{ends_with}
-use Rattle.plan_run.proofs.end_listing.Statement.{statement}
-use Rattle.plan_run.proofs.end_listing.Tie as tie
 
 -- src/lib.rt:136:1
 pub returns : goal.returns

@@ -1,8 +1,6 @@
 use Rattle.plan_run.proofs.goes_on.Goals as goal
 -- `plan_run::goes_on` meets its contract.
 use Rattle.plan_run.proofs.Running.{stopped, by_running}
-use Rattle.plan_run.proofs.goes_on.Statement.{statement}
-use Rattle.plan_run.proofs.goes_on.Tie as tie
 
 -- src/lib.rt:92:9
 pub returns-then-t-gt0 : goal.returns-then-t-gt0

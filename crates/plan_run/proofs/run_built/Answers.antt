@@ -1,10 +1,7 @@
 use Rattle.plan_run.proofs.run_built.Goals as goal
 -- `plan_run::run_built` meets its contract.
 use mathlib.Core.Path.{refl}
-use borrow.Author.Rules.{rules}
 use Rattle.plan_run.proofs.Whole.{adding_start, came_start, runs_built}
-use Rattle.plan_run.proofs.run_built.Statement.{statement}
-use Rattle.plan_run.proofs.run_built.Tie as tie
 
 -- src/lib.rt:174:9
 pub add_initials-added-requires : goal.add_initials-added-requires

@@ -1,15 +1,7 @@
 use Rattle.plan_run.proofs.run_turns.Goals as goal
 -- `plan_run::run_turns` meets its contract.
-use Prim.Native.Nat.{◌-◌}
-use mathlib.Core.Path.{◌≡◌, refl, ◌∙◌}
-use lib.ListN.{length}
-use borrow.Author.Rules.{rules}
-use Rattle.plan_rules.specs.Run.{enough}
-use Rattle.plan_round.specs.Reached.{plan_of}
-use Rattle.plan_round.specs.Turns.{Came}
+use mathlib.Core.Path.{refl, ◌∙◌}
 use Rattle.plan_run.proofs.Running.{steps, nearer, ended}
-use Rattle.plan_run.proofs.run_turns.Statement.{statement}
-use Rattle.plan_run.proofs.run_turns.Tie as tie
 
 -- src/lib.rt:114:5
 pub loop-head-init : goal.loop-head-init
