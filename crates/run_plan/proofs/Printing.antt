@@ -5,12 +5,11 @@ use mathlib.Core.List.{List, [], ◌∷◌, ◌++◌, append_assoc}
 use Prim.Native.Nat.{ℕ, zero, suc, ◌+◌, ◌-◌, ◌≤◌, ◌<◌}
 use native.Mathlib.Omega.{arith}
 use lib.Dec.{leb}
-use lib.ListN.{length, get_or, take, replicate, length-append, get_or-eq_default, get_or-append}
+use lib.ListN.{length, get_or, take, replicate, length-append, get_or-eq_default}
 use lib.Seq.{take_at}
 use borrow.Author.Tests.{leb-true, leb-false}
 use Rattle.rules.specs.Base.{if◌then◌else◌, Maybe, none, some}
 use Rattle.rules.specs.State.{State}
-use Rattle.rules.specs.Build.{build}
 use Rattle.rules.proofs.Tests.{by_bool}
 use Rattle.plan_file.specs.Plan.{Plan}
 use Rattle.plan_file.specs.File
@@ -18,7 +17,7 @@ use Rattle.plan_file.specs.File.{decode}
 use Rattle.plan_rules.specs.Setup.{too_long}
 use Rattle.plan_rules.specs.Run.{ran}
 use Rattle.plan_rules.specs.Text.{decimal, hexadecimal}
-use Rattle.plan_rules.specs.Listing.{Rehearsal, listed, refused, handled_lines, end_line, last_number, listing, once_built, rehearsed}
+use Rattle.plan_rules.specs.Listing.{listed, refused, handled_lines, end_line, last_number, listing, once_built, rehearsed}
 use Rattle.plan_rules.specs.Export.{Exported, exported, shown, printed_of, printed}
 use Rattle.plan_rules.proofs.Program.{program}
 use Rattle.dorrezubi.specs.Exports.{Exports}

@@ -1,5 +1,5 @@
 -- Where a text ends that zeros stand behind.
-use Rattle.std.specs.Prelude.{◌≡◌, List, ℕ, suc, ◌≤◌, ◌<◌, length, get_or}
+use Rattle.std.specs.Prelude.{◌≡◌, List, ℕ, suc, ◌≤◌, length, get_or}
 
 -- The bytes from r on are zero, and the one before them is not.
 pub record EndsAt (text : List ℕ) (r : ℕ) : Type 0 where
