@@ -11,6 +11,7 @@ use types::{SimDuration, SimTime};
 
 // "the least edge lookahead, or the plan's if there is no edge": of the lookaheads of so many edges, two
 // words each, the upper half first.
+#[tactic(auto, using(crate::proofs::Leasts::no_edge))]
 pub fn least_lookahead(lookaheads: &[u64], count: usize, plan: SimDuration) -> SimDuration
     requires { 2 * count ≤ length lookaheads.now }
     ensures { duration_of result ≡ least_lookahead (duration_of plan) (ticks_in count lookaheads.now) }

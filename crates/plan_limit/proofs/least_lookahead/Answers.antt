@@ -1,12 +1,9 @@
 use native.Mathlib.Omega.{arith}
 use mathlib.Core.Path.{sym, ◌∙◌}
 use Rattle.types.specs.Value.{ticks_of}
-use Rattle.plan_limit.proofs.Leasts.{no_edge, some_edge, least_first, least_new, least_kept, least_end}
+use Rattle.plan_limit.proofs.Leasts.{some_edge, least_first, least_new, least_kept, least_end}
 use Rattle.plan_limit.proofs.least_lookahead.Goals as goal
 use Rattle.plan_limit.proofs.least_lookahead.Goals.{then-lt, else-lt}
-
-pub returns-then-count-eq0 : goal.returns-then-count-eq0
-returns-then-count-eq0 c = no_edge _ _ _ (omega arith)
 
 pub loop-i-init : goal.loop-i-init
 loop-i-init c = (omega arith, least_first _ _ _ c.tick_in-least.ensures)
