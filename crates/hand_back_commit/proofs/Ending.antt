@@ -1,11 +1,9 @@
 -- What each return of the last checks and of a round's end gives.
-use mathlib.Core.Path.{◌≡◌, refl, sym, ap, subst, ◌∙◌}
+use mathlib.Core.Path.{◌≡◌, refl, sym, subst, ◌∙◌}
 use mathlib.Core.Bool.{Bool, true, false, not, ◌&&◌}
 use mathlib.Core.List.{List, [], ◌∷◌, ◌++◌}
-use Prim.Native.Nat.{ℕ, ◌+◌, ◌-◌, ◌≤◌, ◌<◌}
+use Prim.Native.Nat.{ℕ, ◌+◌, ◌≤◌, ◌<◌}
 use native.Mathlib.Omega.{arith}
-use types.Run.{OneOf, miss}
-use denote.Enum.Declared.{tag_of}
 use lib.Dec.{ltb}
 use lib.ListN.{length}
 use borrow.Author.Tests.{lt-ltb, le-ltb, ltb-true, ltb-false}
@@ -32,7 +30,6 @@ use Rattle.state.specs.declared.Answer.TheVariants as P
 use Rattle.state.specs.View.{view}
 use Rattle.state.specs.Headers.{committed_header}
 use Rattle.state.specs.ValidArrays.{ValidArrays}
-use Rattle.state.specs.contracts.Answer.{the_type}
 use Rattle.state.proofs.Facts.{few_processes, batch_order, below_top, batch_runs}
 use Rattle.hand_back_emission.proofs.InHand.{findable}
 use Rattle.hand_back_check.specs.declared.ReplyCheck.{ReplyCheck}
@@ -41,7 +38,7 @@ use Rattle.hand_back_check.proofs.Turns.{well_formed}
 use Rattle.hand_back_check.proofs.InOrder.{rows_alike}
 use Rattle.hand_back_end.specs.EndsRound.{CountsRound, Poisons, CanEndRound, EndsRound}
 use Rattle.hand_back_commit.specs.HandsBack.{HandsBack}
-use Rattle.hand_back_commit.specs.Commits.{InHand, ReplyChecked, Finishes, Fits, refusal_of, Accepts, Passes, FinalCheck, CanEnd, Ends}
+use Rattle.hand_back_commit.specs.Commits.{InHand, ReplyChecked, Finishes, Fits, refusal_of, Accepts, FinalCheck, CanEnd, Ends}
 use Rattle.hand_back_commit.proofs.QueueRows as S
 use Rattle.hand_back_commit.proofs.QueueRows.{Settles}
 use Rattle.hand_back_commit.proofs.Back.{back_lost, back_settled}

@@ -2,7 +2,7 @@
 use mathlib.Core.Path.{◌≡◌, refl, sym, ap, subst, ◌∙◌}
 use mathlib.Core.Bool.{true, false}
 use mathlib.Core.List.{List, [], ◌∷◌}
-use Prim.Native.Nat.{ℕ, ◌+◌, ◌-◌, ◌≤◌, ◌<◌}
+use Prim.Native.Nat.{ℕ, ◌+◌, ◌≤◌, ◌<◌}
 use native.Mathlib.Omega.{arith}
 use lib.Dec.{ltb}
 use lib.ListN.{length}
@@ -34,7 +34,6 @@ use Rattle.state.specs.ValidArrays.{ValidArrays}
 use Rattle.state.proofs.Facts.{few_pending, is_stored, stored_is, batch_runs}
 use Rattle.state.proofs.Moves.{overflow_moves, full_moves}
 use Rattle.hand_back_end.specs.EndsRound.{CountsRound, Poisons, round_ended, EndsRound}
-use Rattle.hand_back_commit.specs.Commits.{Fits}
 
 -- The two rows of the emissions xs, and what follows them.
 abbrev pub last_queue_rows : State → List Emission → List Row

@@ -1,4 +1,3 @@
-use borrow.Author.Rules.{rules}
 use Rattle.hand_back_commit.proofs.Ending.{concludable, ended}
 use Rattle.hand_back_commit.proofs.commit_round.Goals as goal
 

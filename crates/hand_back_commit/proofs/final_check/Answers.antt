@@ -1,4 +1,3 @@
-use borrow.Author.Rules.{rules}
 use Rattle.rules.proofs.Tests.{not_true, not_false}
 use Rattle.hand_back_commit.proofs.Ending.{last_refused, last_said}
 use Rattle.hand_back_commit.proofs.final_check.Goals as goal

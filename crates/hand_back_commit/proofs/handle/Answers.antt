@@ -1,4 +1,3 @@
-use borrow.Author.Rules.{rules}
 use mathlib.Core.Path.{ap}
 use Rattle.state.specs.Headers.{committed_header}
 use Rattle.hand_back_commit.proofs.handle.Goals as goal

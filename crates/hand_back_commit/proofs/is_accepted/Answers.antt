@@ -1,4 +1,3 @@
-use borrow.Author.Rules.{rules}
 use Rattle.hand_back_commit.proofs.Ending.{accepts, accepts_not}
 use Rattle.hand_back_commit.proofs.is_accepted.Goals as goal
 

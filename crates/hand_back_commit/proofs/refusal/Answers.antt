@@ -1,4 +1,3 @@
-use borrow.Author.Rules.{rules}
 use Rattle.hand_back_commit.proofs.Ending.{refusal_27, refusal_19, refusal_18, refusal_none}
 use Rattle.hand_back_commit.proofs.refusal.Goals as goal
 
