@@ -99,6 +99,12 @@ def split(line, mark):
     return (line[: m.start()], line[m.start() :]) if m else (line, "")
 
 
+def other_words(text):
+    """The library has an operator if◌then◌else◌, and no other thing may have its name: ours reads `if a then b otherwise c`."""
+    text = text.replace("if◌then◌else◌", "if◌then◌otherwise◌")
+    return re.sub(r"(?<![\w.'◌-])else(?![\w.'◌-])", "otherwise", text)
+
+
 def turn_code(text, new):
     text = re.sub(r"«([^»]+)»", lambda m: new.get(m.group(1), m.group(0)), text)
     return ID.sub(lambda m: new.get(m.group(0), m.group(0)), text)
@@ -114,17 +120,20 @@ def turn_lines(text, new, mark):
     out = []
     for line in text.split("\n"):
         code, prose = split(line, mark)
+        code = other_words(code) if mark == "--" else code.replace("if◌then◌else◌", "if◌then◌otherwise◌")
         out.append(turn_code(code, new) + turn_prose(prose, new))
     return "\n".join(out)
 
 
 def turn_edit(text, new):
-    out = []
+    out, file = [], ""
     for line in text.split("\n"):
+        file = line[6:] if line.startswith("file: ") else file
         m = re.match(r"(old|new): ?(.*)$", line)
         if m:
             body = re.sub(r"\((\w+'?) \.([\w-]+)\)", r"\1.\2", m.group(2))
             body = re.sub(r"⌜ | ⌝", "", body)
+            body = other_words(body) if file.endswith(".antt") else body
             out.append(m.group(1) + ": " + turn_code(body, new))
         else:
             out.append(turn_prose(line, new))

@@ -8,7 +8,7 @@ use lib.Dec.{leb, ltb}
 use borrow.Author.Tests.{ltb-true, ltb-false, le-leb, lt-leb}
 use Rattle.types.specs.declared.SimTime.{SimTime}
 use Rattle.types.specs.Value.{ticks_of}
-use Rattle.rules.specs.Base.{if◌then◌else◌}
+use Rattle.rules.specs.Base.{if◌then◌otherwise◌}
 use Rattle.rules.specs.State.{State, Counters, with_run, max_tick}
 use Rattle.rules.specs.Answers as A
 use Rattle.rules.specs.Rows.{unless, out, refuse}
@@ -36,25 +36,25 @@ last_unset b h k z e f = rw (e, f)
 -- The rows, each with those before it passed.
 module _ (s : State) (c : Counters) (h b : ℕ) (f : foreign s ≡ false) where
   row_12 : s.poisoned ≡ true → begin s c h b ≡ refuse s c A.Poisoned
-  unfolding begin unless if◌then◌else◌
+  unfolding begin unless if◌then◌otherwise◌
   row_12 p = rw (f, p)
 
   module _ (p : s.poisoned ≡ false) where
     row_20 : s.running ≡ true → begin s c h b ≡ refuse s c A.RunOpen
-    unfolding begin unless if◌then◌else◌
+    unfolding begin unless if◌then◌otherwise◌
     row_20 r = rw (f, p, r)
 
     module _ (r : s.running ≡ false) where
       row-21 : ltb h (previous s.stored) ≡ true → begin s c h b ≡ refuse s c (A.HorizonRegression (previous s.stored) h)
-      unfolding begin unless if◌then◌else◌
+      unfolding begin unless if◌then◌otherwise◌
       row-21 l = rw (f, p, r, l)
 
       row-22 : ltb h (previous s.stored) ≡ false → leb max_tick h ≡ true → begin s c h b ≡ refuse s c (A.HorizonOverflow h)
-      unfolding begin unless if◌then◌else◌
+      unfolding begin unless if◌then◌otherwise◌
       row-22 l t = rw (f, p, r, l, t)
 
       accepted : ltb h (previous s.stored) ≡ false → leb max_tick h ≡ false → begin s c h b ≡ out A.Accepted (with_run s h b) c
-      unfolding begin unless if◌then◌else◌
+      unfolding begin unless if◌then◌otherwise◌
       accepted l t = rw (f, p, r, l, t)
 
 -- Row 22 as the program tests it.

@@ -7,7 +7,7 @@ use native.Mathlib.Omega.{arith}
 use lib.Dec.{ltb, eqb}
 use lib.ListN.{take, drop}
 use borrow.Author.Tests.{lt-ltb, le-ltb, ltb-false}
-use Rattle.rules.specs.Base.{if◌then◌else◌, Maybe, none, some, any, member, rising, up_to}
+use Rattle.rules.specs.Base.{if◌then◌otherwise◌, Maybe, none, some, any, member, rising, up_to}
 use Rattle.rules.specs.Answers as A
 use Rattle.rules.specs.Rows.{Row, unless}
 use Rattle.rules.specs.State.{Counters}
@@ -41,34 +41,34 @@ module _ (n L : ℕ) (ids sources counts ds ls : List ℕ) where
   rows = build_rows (setup n L ids sources counts ds ls)
 
   row_1 : eqb n 0 || ltb 64 n ≡ true → answer_of_rows (take 4 rows) ≡ A.Refused (A.InvalidPartitionCount n)
-  unfolding answer_of_rows unless if◌then◌else◌
+  unfolding answer_of_rows unless if◌then◌otherwise◌
   row_1 a = rw a
 
   module _ (a : eqb n 0 || ltb 64 n ≡ false) where
     row_2 : eqb L 0 ≡ true → answer_of_rows (take 4 rows) ≡ A.Refused A.InvalidLookahead
-    unfolding answer_of_rows unless if◌then◌else◌
+    unfolding answer_of_rows unless if◌then◌otherwise◌
     row_2 b = rw (a, b)
 
     module _ (b : eqb L 0 ≡ false) where
       row-3 : rising ltb ids ≡ false → answer_of_rows (take 4 rows) ≡ A.Refused A.UnorderedProcesses
-      unfolding answer_of_rows unless if◌then◌else◌
+      unfolding answer_of_rows unless if◌then◌otherwise◌
       row-3 d = rw (a, b, d)
 
       module _ (d : rising ltb ids ≡ true) where
         row-4 : ltb 0 (missing ids (up_to n)) || ltb 0 (unexpected n ids) ≡ true → answer_of_rows (take 4 rows) ≡ A.Refused (A.ProcessSetMismatch (missing ids (up_to n)) (unexpected n ids))
-        unfolding answer_of_rows unless if◌then◌else◌
+        unfolding answer_of_rows unless if◌then◌otherwise◌
         row-4 e = rw (a, b, d, e)
 
         after-4 : ltb 0 (missing ids (up_to n)) || ltb 0 (unexpected n ids) ≡ false → answer_of_rows (take 4 rows) ≡ A.Accepted
-        unfolding answer_of_rows unless if◌then◌else◌
+        unfolding answer_of_rows unless if◌then◌otherwise◌
         after-4 e = rw (a, b, d, e)
 
   row_5 : malformed_rows (setup n L ids sources counts ds ls) ≡ true → answer_of_rows (drop 4 rows) ≡ A.Refused A.MalformedTopology
-  unfolding answer_of_rows unless if◌then◌else◌
+  unfolding answer_of_rows unless if◌then◌otherwise◌
   row_5 m = rw m
 
   row_6 : malformed_rows (setup n L ids sources counts ds ls) ≡ false → answer_of_rows (drop 4 rows) ≡ without_row (missing_row n sources) (answer_of_rows (topology_rows n sources counts (targets ds ls)))
-  unfolding answer_of_rows unless if◌then◌else◌ missing_row missing_row_in
+  unfolding answer_of_rows unless if◌then◌otherwise◌ missing_row missing_row_in
   row_6 m = by_bool (any (λ p. not (member p sources)) (up_to n)) (λ e. rw (m, e)) (λ e. rw (m, e))
 
 pub orderly : (n : ℕ) (ids : List ℕ) (z u : Bool) → z ≡ (eqb n 0 || ltb 64 n) → z ≡ false → u ≡ rising ltb ids → not u ≡ false → RisingIds n ids

@@ -11,7 +11,7 @@ use lib.ListN.{length, get_or, drop, length-drop, drop_of_length-le}
 use lib.Seq.{drop-cons, drop-drop}
 use lib.Pow.{pow_mono}
 use borrow.Author.Tests.{ltb-true, lt-ltb, le-ltb, eqb-true, eqb-false, eq-eqb, ne_eqb, le-leb, lt-leb}
-use Rattle.rules.specs.Base.{if◌then◌else◌, none, some, up_from, up_to, any, member, count, rising}
+use Rattle.rules.specs.Base.{if◌then◌otherwise◌, none, some, up_from, up_to, any, member, count, rising}
 use Rattle.rules.specs.Build.{missing, unexpected, least_without_row}
 use Rattle.rules.proofs.Tests.{and_off, by_bool}
 use Rattle.rules.proofs.Lists.{All, all_map, none_any}
@@ -117,22 +117,22 @@ missing_past p xs [] h a = refl
 missing_past p xs (q ∷ ps) h a = rw (member_past p q xs h a.0, missing_past p xs ps h a.1)
 
 missing_on : (p k : ℕ) (xs : List ℕ) → starts_with p xs ≡ true → missing xs (up_from p (suc k)) ≡ missing (drop 1 xs) (up_from (suc p) k)
-unfolding missing up_from if◌then◌else◌
+unfolding missing up_from if◌then◌otherwise◌
 missing_on p k xs h = rw (member_first p xs h) (omega (arith, missing_past p xs (up_from (suc p) k) h (up_from_above (suc p) k)))
 
 missing_off : (p k : ℕ) (xs : List ℕ) → Rises (suc p) xs → missing xs (up_from p (suc k)) ≡ 2 ^ p + missing xs (up_from (suc p) k)
-unfolding missing up_from if◌then◌else◌
+unfolding missing up_from if◌then◌otherwise◌
 missing_off p k xs r = rw (member_none p xs r)
 
 -- 4: the unexpected
 
 unexpected_on : (n p : ℕ) (xs : List ℕ) → starts_with p xs ≡ true → p < n → unexpected n xs ≡ unexpected n (drop 1 xs)
-unfolding unexpected count if◌then◌else◌
+unfolding unexpected count if◌then◌otherwise◌
 unexpected_on n p [] h l = refl
 unexpected_on n p (x ∷ xs) h l = let e = eqb-true x p h in rw (lt-leb n x (omega arith)) (omega arith)
 
 unexpected_all : (n : ℕ) (xs : List ℕ) → All (λ x. n ≤ x) xs → unexpected n xs ≡ length xs
-unfolding unexpected count if◌then◌else◌
+unfolding unexpected count if◌then◌otherwise◌
 unexpected_all n [] a = refl
 unexpected_all n (x ∷ xs) a = rw (le-leb n x a.0) (omega (arith, unexpected_all n xs a.1))
 
@@ -203,12 +203,12 @@ module _ (n : ℕ) (ids : List ℕ) where
 
 -- 6: the least that is missing
 
-no_row_more : (p : ℕ) (xs ps : List ℕ) → missing_row_in xs (p ∷ ps) ≡ (if member p xs then missing_row_in xs ps else some p)
-unfolding missing_row_in any least_without_row if◌then◌else◌
+no_row_more : (p : ℕ) (xs ps : List ℕ) → missing_row_in xs (p ∷ ps) ≡ (if member p xs then missing_row_in xs ps otherwise some p)
+unfolding missing_row_in any least_without_row if◌then◌otherwise◌
 no_row_more p xs ps = by_bool (member p xs) (λ e. rw e) (λ e. rw e)
 
 no_row_none : (xs : List ℕ) → missing_row_in xs [] ≡ none
-unfolding missing_row_in any if◌then◌else◌
+unfolding missing_row_in any if◌then◌otherwise◌
 no_row_none xs = refl
 
 no_row_past : (p : ℕ) (xs ps : List ℕ) → starts_with p xs ≡ true → All (λ q. suc p ≤ q) ps → missing_row_in xs ps ≡ missing_row_in (drop 1 xs) ps
@@ -216,11 +216,11 @@ no_row_past p xs [] h a = no_row_none xs ∙ sym (no_row_none (drop 1 xs))
 no_row_past p xs (q ∷ ps) h a = no_row_more q xs ps ∙ rw (member_past p q xs h a.0, no_row_past p xs ps h a.1) (sym (no_row_more q (drop 1 xs) ps))
 
 no_row_on : (p k : ℕ) (xs : List ℕ) → starts_with p xs ≡ true → missing_row_in xs (up_from p (suc k)) ≡ missing_row_in (drop 1 xs) (up_from (suc p) k)
-unfolding up_from if◌then◌else◌
+unfolding up_from if◌then◌otherwise◌
 no_row_on p k xs h = no_row_more p xs (up_from (suc p) k) ∙ rw (member_first p xs h) (no_row_past p xs (up_from (suc p) k) h (up_from_above (suc p) k))
 
 no_row_off : (p k : ℕ) (xs : List ℕ) → Rises (suc p) xs → missing_row_in xs (up_from p (suc k)) ≡ some p
-unfolding up_from if◌then◌else◌
+unfolding up_from if◌then◌otherwise◌
 no_row_off p k xs r = no_row_more p xs (up_from (suc p) k) ∙ rw (member_none p xs r)
 
 -- 6: the processes below p have their rows, each at its place.
@@ -248,5 +248,5 @@ module _ (n : ℕ) (sources : List ℕ) where
   rowed_off p l h i = let xs = drop p sources in sym (i.left ∙ rw (next n p l) (no_row_off p (n - (p + 1)) xs (rises_off p xs i.rise h)))
 
   pub rowed_all : (p : ℕ) → n ≤ p → Rowed n sources p → none ≡ missing_row n sources
-  unfolding missing_row_in up_from any if◌then◌else◌
+  unfolding missing_row_in up_from any if◌then◌otherwise◌
   rowed_all p l i = let z : n - p ≡ 0 = omega arith in sym (i.left ∙ rw z)

@@ -1,6 +1,6 @@
 -- What each check answers, in the words of rules/Build.
 use Rattle.std.specs.Prelude.{◌≡◌, Bool, true, false, not, List, [], ◌∷◌, ℕ, ◌≤◌, ltb, eqb}
-use Rattle.rules.specs.Base.{if◌then◌else◌, Maybe, none, some, up_to, any, member, rising}
+use Rattle.rules.specs.Base.{if◌then◌otherwise◌, Maybe, none, some, up_to, any, member, rising}
 use Rattle.rules.specs.Build.{missing, unexpected, least_without_row}
 use Rattle.types.specs.Value.{lp_id_of}
 use Rattle.build_ids.specs.declared.IdMismatch.{IdMismatch}
@@ -23,7 +23,7 @@ checked_ids n ids = record { missing = missing ids (up_to n); unexpected = unexp
 
 -- 6: of the processes ps, the least that has no row, if there is one.
 unfoldable pub missing_row_in : List ℕ → List ℕ → Maybe ℕ
-missing_row_in sources ps = if any (λ p. not (member p sources)) ps then some (least_without_row sources ps) else none
+missing_row_in sources ps = if any (λ p. not (member p sources)) ps then some (least_without_row sources ps) otherwise none
 
 unfoldable pub missing_row : ℕ → List ℕ → Maybe ℕ
 missing_row n sources = missing_row_in sources (up_to n)

@@ -9,7 +9,7 @@ use lib.Dec.{eqb}
 use lib.ListN.{length, get_or, take, drop, set, replicate, length-set, drop_of_length-le}
 use lib.Seq.{drop-cons, drop-drop, get_or-set_same, get_or-set_other}
 use borrow.Author.Tests.{le-leb, lt-leb, eqb-true, eqb-false, eq-eqb, ne_eqb}
-use Rattle.rules.specs.Base.{if◌then◌else◌, Maybe, none, some, any, member, sum}
+use Rattle.rules.specs.Base.{if◌then◌otherwise◌, Maybe, none, some, any, member, sum}
 use Rattle.rules.specs.Answers.{Refusal, UnknownTopologySource, UnknownTopologyDestination, SelfLoop, DuplicateNeighbor, InvalidEdgeLookahead}
 use Rattle.rules.specs.Rows.{Row, unless}
 use Rattle.rules.specs.Build.{Target, targets, destination_rows, topology_rows}
@@ -30,7 +30,7 @@ or_else none m = m
 or_else (some r) m = some r
 
 decided_append : (rs ts : List Row) → first_refusal (rs ++ ts) ≡ or_else (first_refusal rs) (first_refusal ts)
-unfolding first_refusal unless if◌then◌else◌
+unfolding first_refusal unless if◌then◌otherwise◌
 decided_append [] ts = refl
 decided_append (r ∷ rs) ts = by_bool r.test (λ e. rw e) (λ e. rw e (decided_append rs ts))
 
@@ -55,26 +55,26 @@ module _ (n p : ℕ) (seen : List ℕ) (t : Target) (ts : List Target) where
   decided = first_refusal (destination_rows n p seen (t ∷ ts))
 
   at_unknown : n ≤ t.destination → decided ≡ some (UnknownTopologyDestination p t.destination)
-  unfolding first_refusal unless destination_rows if◌then◌else◌
+  unfolding first_refusal unless destination_rows if◌then◌otherwise◌
   at_unknown a = rw (le-leb n t.destination a)
 
   module _ (known : t.destination < n) where
     at_self : eqb t.destination p ≡ true → decided ≡ some (SelfLoop p)
-    unfolding first_refusal unless destination_rows if◌then◌else◌
+    unfolding first_refusal unless destination_rows if◌then◌otherwise◌
     at_self b = rw (lt-leb n t.destination known, b)
 
     module _ (b : eqb t.destination p ≡ false) where
       at-twice : member t.destination seen ≡ true → decided ≡ some (DuplicateNeighbor p t.destination)
-      unfolding first_refusal unless destination_rows if◌then◌else◌
+      unfolding first_refusal unless destination_rows if◌then◌otherwise◌
       at-twice e = rw (lt-leb n t.destination known, b, e)
 
       module _ (e : member t.destination seen ≡ false) where
         at-nought : eqb t.lookahead 0 ≡ true → decided ≡ some InvalidEdgeLookahead
-        unfolding first_refusal unless destination_rows if◌then◌else◌
+        unfolding first_refusal unless destination_rows if◌then◌otherwise◌
         at-nought o = rw (lt-leb n t.destination known, b, e, o)
 
         at_new : eqb t.lookahead 0 ≡ false → decided ≡ first_refusal (destination_rows n p (t.destination ∷ seen) ts)
-        unfolding first_refusal unless destination_rows if◌then◌else◌
+        unfolding first_refusal unless destination_rows if◌then◌otherwise◌
         at_new o = rw (lt-leb n t.destination known, b, e, o)
 
 -- A stamp put at d
@@ -158,11 +158,11 @@ module _ (n : ℕ) (source : LpId) (ds ws : List ℕ) (stamp : ℕ) (marks : Lis
 
 module _ (n p k : ℕ) (sources counts : List ℕ) (ts : List Target) where
   row_unknown : n ≤ p → first_refusal (topology_rows n (p ∷ sources) (k ∷ counts) ts) ≡ some (UnknownTopologySource p)
-  unfolding first_refusal unless topology_rows if◌then◌else◌
+  unfolding first_refusal unless topology_rows if◌then◌otherwise◌
   row_unknown a = rw (le-leb n p a)
 
   row_known : p < n → first_refusal (topology_rows n (p ∷ sources) (k ∷ counts) ts) ≡ first_refusal (destination_rows n p [] (take k ts) ++ topology_rows n sources counts (drop k ts))
-  unfolding first_refusal unless topology_rows if◌then◌else◌
+  unfolding first_refusal unless topology_rows if◌then◌otherwise◌
   row_known a = rw (lt-leb n p a)
 
   row_else : p < n → first_refusal (topology_rows n (p ∷ sources) (k ∷ counts) ts) ≡ or_else (first_refusal (destination_rows n p [] (take k ts))) (first_refusal (topology_rows n sources counts (drop k ts)))

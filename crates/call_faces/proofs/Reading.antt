@@ -3,7 +3,7 @@ use mathlib.Core.Path.{◌≡◌, sym, subst}
 use Prim.Native.Nat.{ℕ}
 use lib.Dec.{eqb}
 use borrow.Author.Tests.{ne_eqb}
-use Rattle.rules.specs.Base.{if◌then◌else◌}
+use Rattle.rules.specs.Base.{if◌then◌otherwise◌}
 use Rattle.rules.specs.State as R
 use Rattle.rules.specs.State.{State}
 use Rattle.rules.specs.Rows.{Out}
@@ -16,19 +16,19 @@ use Rattle.call_faces.specs.Tags.{read_by}
 
 module _ (tag : ℕ) where
   by_4 : tag ≡ 4 → read_by tag ≡ read_gvt
-  unfolding read_by if◌then◌else◌
+  unfolding read_by if◌then◌otherwise◌
   by_4 e = rw e
 
   by_5 : tag ≡ 5 → read_by tag ≡ read_counters
-  unfolding read_by if◌then◌else◌
+  unfolding read_by if◌then◌otherwise◌
   by_5 e = rw e
 
   by_6 : tag ≡ 6 → read_by tag ≡ read_pending
-  unfolding read_by if◌then◌else◌
+  unfolding read_by if◌then◌otherwise◌
   by_6 e = rw e
 
   by_other : (tag ≡ 4 → ⊥) → (tag ≡ 5 → ⊥) → (tag ≡ 6 → ⊥) → read_by tag ≡ read_earliest
-  unfolding read_by if◌then◌else◌
+  unfolding read_by if◌then◌otherwise◌
   by_other n4 n5 n6 = rw (ne_eqb tag 4 n4, ne_eqb tag 5 n5, ne_eqb tag 6 n6)
 
   module _ (s : Runtime) (c : Counters) (a : ReadAnswer) where

@@ -7,7 +7,7 @@ use native.Mathlib.Omega.{arith}
 use lib.Dec.{eqb}
 use lib.ListN.{length, get_or, get_or-eq_default}
 use borrow.Author.Tests.{lt-ltb, le-ltb, ltb-false, ne_eqb, eqb-true, eqb-false}
-use Rattle.rules.specs.Base.{if◌then◌else◌}
+use Rattle.rules.specs.Base.{if◌then◌otherwise◌}
 use Rattle.rules.specs.Calls.{Call, AddInitial, Begin, Step}
 use Rattle.rules.proofs.Tests.{by_test, by_bool}
 use Rattle.types.specs.declared.LpId.{LpId}
@@ -21,11 +21,11 @@ use Rattle.call_words.specs.Decode.{Decoded, Nothing, Decodes, message_at, if_co
 
 module _ (w : List ℕ) (at : ℕ) where
   broken : (k : Call) (n : ℕ) → length w < at + n → if_complete w at k n ≡ Nothing
-  unfolding if_complete if◌then◌else◌
+  unfolding if_complete if◌then◌otherwise◌
   broken k n h = rw (lt-ltb (length w) (at + n) h)
 
   fits : (k : Call) (n : ℕ) → at + n ≤ length w → if_complete w at k n ≡ Decodes k n
-  unfolding if_complete if◌then◌else◌
+  unfolding if_complete if◌then◌otherwise◌
   fits k n h = rw (le-ltb (length w) (at + n) h)
 
   pub size_broken : (n : ℕ) → length w < at + n → Sizes w at n 0
@@ -36,24 +36,24 @@ module _ (w : List ℕ) (at : ℕ) where
 
   -- By tag.
   tag_0 : get_or w at 0 ≡ 0 → decode w at ≡ if_complete w at (AddInitial (message_at w (at + 1))) 8
-  unfolding decode if◌then◌else◌
+  unfolding decode if◌then◌otherwise◌
   tag_0 e = rw e
 
   tag_1 : get_or w at 0 ≡ 1 → decode w at ≡ if_complete w at (Begin (tick_at w (at + 1)) (get_or w (at + 3) 0)) 4
-  unfolding decode if◌then◌else◌
+  unfolding decode if◌then◌otherwise◌
   tag_1 e = rw e
 
   tag_2 : get_or w at 0 ≡ 2 → decode w at ≡ if_complete w at Step 1
-  unfolding decode if◌then◌else◌
+  unfolding decode if◌then◌otherwise◌
   tag_2 e = rw e
 
   tag_3 : get_or w at 0 ≡ 3 → decode w at ≡ hand_back_in w at (get_or w (at + 2) 0)
-  unfolding decode if◌then◌else◌
+  unfolding decode if◌then◌otherwise◌
   tag_3 e = rw e
 
   module _ (n0 : get_or w at 0 ≡ 0 → ⊥) (n1 : get_or w at 0 ≡ 1 → ⊥) (n2 : get_or w at 0 ≡ 2 → ⊥) where
     tag_other : (get_or w at 0 ≡ 3 → ⊥) → decode w at ≡ Nothing
-    unfolding decode if◌then◌else◌
+    unfolding decode if◌then◌otherwise◌
     tag_other n3 = rw (ne_eqb (get_or w at 0) 0 n0, ne_eqb (get_or w at 0) 1 n1, ne_eqb (get_or w at 0) 2 n2, ne_eqb (get_or w at 0) 3 n3)
 
     pub size_other : (get_or w at 0 ≡ 3 → ⊥) → 0 ≡ size (decode w at)
@@ -77,11 +77,11 @@ module _ (w : List ℕ) (at : ℕ) where
   -- Hand backs of n emissions.
   module _ (n : ℕ) where
     too_many : max_items < n → hand_back_in w at n ≡ Nothing
-    unfolding hand_back_in if◌then◌else◌
+    unfolding hand_back_in if◌then◌otherwise◌
     too_many h = rw (lt-ltb max_items n h)
 
     not_too_many : n ≤ max_items → hand_back_in w at n ≡ if_complete w at (hand_back_at w at n) (3 + 8 * n)
-    unfolding hand_back_in if◌then◌else◌
+    unfolding hand_back_in if◌then◌otherwise◌
     not_too_many h = rw (le-ltb max_items n h)
 
     pub back_too_many : max_items < n → 0 ≡ size (hand_back_in w at n)

@@ -1,6 +1,6 @@
 -- What words say as calls: docs/CALLS.md, tags 0 to 3. Reading past the end gives zeros, so a call that breaks off is one of more words than there are.
 use Rattle.std.specs.Prelude.{◌≡◌, List, [], ◌∷◌, ℕ, zero, suc, ◌+◌, ◌*◌, ltb, eqb, length, get_or, drop}
-use Rattle.rules.specs.Base.{if◌then◌else◌}
+use Rattle.rules.specs.Base.{if◌then◌otherwise◌}
 use Rattle.rules.specs.State.{Message}
 use Rattle.rules.specs.Calls.{Call, AddInitial, Begin, Step, HandBack}
 use Rattle.types.specs.Value.{id_of_word}
@@ -24,7 +24,7 @@ message_at w at = record {
 
 -- The call k of n words, if so many are there.
 unfoldable pub if_complete : List ℕ → ℕ → Call → ℕ → Decoded
-if_complete w at k n = if ltb (length w) (at + n) then Nothing else Decodes k n
+if_complete w at k n = if ltb (length w) (at + n) then Nothing otherwise Decodes k n
 
 -- A hand back of n emissions.
 unfoldable pub hand_back_at : List ℕ → ℕ → ℕ → Call
@@ -35,17 +35,17 @@ abbrev pub max_items : ℕ
 max_items = 4096
 
 unfoldable pub hand_back_in : List ℕ → ℕ → ℕ → Decoded
-hand_back_in w at n = if ltb max_items n then Nothing else if_complete w at (hand_back_at w at n) (3 + 8 * n)
+hand_back_in w at n = if ltb max_items n then Nothing otherwise if_complete w at (hand_back_at w at n) (3 + 8 * n)
 
 unfoldable pub decode : List ℕ → ℕ → Decoded
 decode w at =
     let tag = get_or w at 0 in
     let n = get_or w (at + 2) 0 in
     if eqb tag 0 then if_complete w at (AddInitial (message_at w (at + 1))) 8
-    else if eqb tag 1 then if_complete w at (Begin (tick_at w (at + 1)) (get_or w (at + 3) 0)) 4
-    else if eqb tag 2 then if_complete w at Step 1
-    else if eqb tag 3 then hand_back_in w at n
-    else Nothing
+    otherwise if eqb tag 1 then if_complete w at (Begin (tick_at w (at + 1)) (get_or w (at + 3) 0)) 4
+    otherwise if eqb tag 2 then if_complete w at Step 1
+    otherwise if eqb tag 3 then hand_back_in w at n
+    otherwise Nothing
 
 -- How many words it takes; 0 for nothing.
 abbrev pub size : Decoded → ℕ

@@ -9,14 +9,14 @@ use Rattle.types.specs.declared.Added.{Added}
 use Rattle.types.specs.declared.Added.TheVariants.{Sum, Overflow}
 use Rattle.types.specs.Value.{halves, ticks_of, IsSum}
 use Rattle.types.proofs.Halves.{halves_fit}
-use Rattle.rules.specs.Base.{if◌then◌else◌}
+use Rattle.rules.specs.Base.{if◌then◌otherwise◌}
 use Rattle.rules.proofs.Tests.{by_test}
 use Rattle.frontiers.specs.Tables.{capped}
 
-fits : (B n H : ℕ) → n < B → min H n ≡ (if ltb (B - 1) n then H else min H n)
+fits : (B n H : ℕ) → n < B → min H n ≡ (if ltb (B - 1) n then H otherwise min H n)
 fits B n H h = by_test (λ (x : ℕ). min H n ≡ x) (λ e. absurd (omega (arith, ltb-true (B - 1) n e))) (λ e. refl)
 
-over : (B n H : ℕ) → 0 < B → B ≤ n → H ≡ (if ltb (B - 1) n then H else min H n)
+over : (B n H : ℕ) → 0 < B → B ≤ n → H ≡ (if ltb (B - 1) n then H otherwise min H n)
 over B n H p h = by_test (λ (x : ℕ). H ≡ x) (λ e. refl) (λ e. absurd (omega (arith, ltb-false (B - 1) n e)))
 
 pub capped_sum : (sum : Added) (H L a v : ℕ) (t : SimTime) → IsSum (a + L) sum → sum ≡ Sum t → v ≡ min H (ticks_of t) → v ≡ capped H L a

@@ -10,7 +10,7 @@ use Rattle.types.specs.declared.SimTime.{SimTime}
 use Rattle.types.specs.Value.{ticks_of}
 use Rattle.words.specs.Words.{tab, tick_of, inbounds_of}
 use Rattle.words.proofs.Tab.{tab_cong}
-use Rattle.rules.specs.Base.{if◌then◌else◌, Maybe, none, some, is_some, up_from, up_to, any}
+use Rattle.rules.specs.Base.{if◌then◌otherwise◌, Maybe, none, some, is_some, up_from, up_to, any}
 use Rattle.rules.specs.State.{Event}
 use Rattle.rules.specs.Pending.{first_of, tick_or, first_tick}
 use Rattle.rules.specs.Frontiers.{safe, below, eligible, any_eligible}
@@ -21,8 +21,8 @@ use Rattle.inbound.proofs.Recording.{safe_in}
 use Rattle.frontiers.specs.Tables.{FirstTicks}
 use Rattle.frontiers.specs.InputFrontiers.{Eligible}
 
-chosen : (b : Bool) (e : Event) → b ≡ is_some (if b then some e else none)
-unfolding if◌then◌else◌ is_some
+chosen : (b : Bool) (e : Event) → b ≡ is_some (if b then some e otherwise none)
+unfolding if◌then◌otherwise◌ is_some
 chosen true e = refl
 chosen false e = refl
 

@@ -16,7 +16,7 @@ use Rattle.words.proofs.Tab.{tab_cong, tab_step, tab_none, tab_whole, Pass, pass
 use Rattle.words.proofs.Ticks.{by_rise}
 use Rattle.records.specs.Records.{edge_at, edges_of}
 use Rattle.records.proofs.Stored.{bound_same, bound_other}
-use Rattle.rules.specs.Base.{if◌then◌else◌}
+use Rattle.rules.specs.Base.{if◌then◌otherwise◌}
 use Rattle.rules.specs.State.{Edge, with_bound, State}
 use Rattle.rules.specs.Step.{input_frontier, new_bound, raised_edges, count_raised, new_edges, null_messages_of}
 use Rattle.rules.specs.InPlace.{with_edges, raise_bounds}
@@ -30,14 +30,14 @@ use Rattle.frontiers.specs.Rises.{BoundOf, FindsBound, raised_to, RaisedEdge, Ra
 use Rattle.frontiers.specs.InputFrontiers.{ReadsFrontiers}
 
 abbrev one_if : Bool → ℕ
-one_if b = if b then 1 else 0
+one_if b = if b then 1 otherwise 0
 
 one_true : (b : Bool) → b ≡ true → 1 ≡ one_if b
-unfolding if◌then◌else◌
+unfolding if◌then◌otherwise◌
 one_true b e = rw e
 
 one_false : (b : Bool) → b ≡ false → 0 ≡ one_if b
-unfolding if◌then◌else◌
+unfolding if◌then◌otherwise◌
 one_false b e = rw e
 
 -- An edge's source and bound where they stand.
@@ -104,7 +104,7 @@ one_most b = by_test (λ (x : ℕ). x ≤ 1) (λ e. omega arith) (λ e. omega ar
 pub edge_most : (i t : ℕ) (w u : List ℕ) (r : ℕ) → RaisedEdge i t w u r → r ≤ 1
 edge_most i t w u r l = rw l.counted (one_most _)
 
-count_step : (f g : ℕ → Edge) (i m : ℕ) → 0 < i → i ≤ m → count_raised (tab f (i - 1) (m - (i - 1))) (tab g (i - 1) (m - (i - 1))) ≡ (if ltb (f (i - 1)).bound (g (i - 1)).bound then 1 else 0) + count_raised (tab f i (m - i)) (tab g i (m - i))
+count_step : (f g : ℕ → Edge) (i m : ℕ) → 0 < i → i ≤ m → count_raised (tab f (i - 1) (m - (i - 1))) (tab g (i - 1) (m - (i - 1))) ≡ (if ltb (f (i - 1)).bound (g (i - 1)).bound then 1 otherwise 0) + count_raised (tab f i (m - i)) (tab g i (m - i))
 unfolding count_raised
 count_step f g i m h l = rw (tab_step f i m h l, tab_step g i m h l)
 

@@ -13,7 +13,7 @@ use Rattle.words.proofs.Tab.{tab_step, tab_none, tab_whole}
 use Rattle.words.proofs.Ticks.{fill_at}
 use Rattle.records.specs.Records.{event_at, events_of}
 use Rattle.records.proofs.Stored.{event_to, event_tick}
-use Rattle.rules.specs.Base.{if◌then◌else◌, Maybe, some}
+use Rattle.rules.specs.Base.{if◌then◌otherwise◌, Maybe, some}
 use Rattle.rules.specs.State.{Event}
 use Rattle.rules.specs.Pending.{first_of, tick_or, first_tick}
 use Rattle.frontiers.specs.Tables.{Changed, FirstTicks, FirstTickSet}
@@ -27,8 +27,8 @@ module _ (pending w : List ℕ) (i : ℕ) where
   pub note_no : 64 ≤ get_or pending (8 * i) 0 → FirstTickSet (event_at pending i) w w
   note_no h = rw (event_to pending i) (changed_past w (get_or pending (8 * i) 0) _ h)
 
-push : (b : Bool) (e : Event) (m : Maybe Event) (d x : ℕ) → x ≡ tick_or m d → (if b then e.tick else x) ≡ tick_or (if b then some e else m) d
-unfolding if◌then◌else◌ tick_or
+push : (b : Bool) (e : Event) (m : Maybe Event) (d x : ℕ) → x ≡ tick_or m d → (if b then e.tick otherwise x) ≡ tick_or (if b then some e otherwise m) d
+unfolding if◌then◌otherwise◌ tick_or
 push true e m d x h = refl
 push false e m d x h = h
 

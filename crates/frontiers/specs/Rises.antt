@@ -1,7 +1,7 @@
 -- What rises in an advance, in the words of the rules: edge bounds, by a table of input frontiers.
 use Rattle.std.specs.Prelude.{◌≡◌, ◌≢◌, List, ℕ, ◌*◌, ◌≤◌, ◌<◌, max, ltb, length}
 use Rattle.records.specs.Records.{edge_at, edges_of}
-use Rattle.rules.specs.Base.{if◌then◌else◌}
+use Rattle.rules.specs.Base.{if◌then◌otherwise◌}
 use Rattle.rules.specs.State.{Edge, with_bound, State}
 use Rattle.rules.specs.InPlace.{with_edges, raise_bounds}
 use Rattle.types.specs.Value.{ticks_of, duration_of}
@@ -28,7 +28,7 @@ raised_to t e = with_bound e (max e.bound t)
 pub record RaisedEdge (i t : ℕ) (w u : List ℕ) (r : ℕ) : Type 0 where
   pub here : edge_at u i ≡ raised_to t (edge_at w i)
   pub others : (k : ℕ) → k ≢ i → edge_at u k ≡ edge_at w k
-  pub counted : r ≡ (if ltb (edge_at w i).bound (edge_at u i).bound then 1 else 0)
+  pub counted : r ≡ (if ltb (edge_at w i).bound (edge_at u i).bound then 1 otherwise 0)
 
 -- The source of each of the first m edges is one of n processes.
 unfoldable pub Sources : ℕ → ℕ → List ℕ → Type 0

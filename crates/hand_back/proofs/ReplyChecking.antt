@@ -8,7 +8,7 @@ use lib.ListN.{length, get_or, length-replicate}
 use Rattle.words.specs.Words.{tab, zeroes}
 use Rattle.words.proofs.Tab.{length_tab}
 use Rattle.records.specs.Records.{edges_of, events_of}
-use Rattle.rules.specs.Base.{if◌then◌else◌, count}
+use Rattle.rules.specs.Base.{if◌then◌otherwise◌, count}
 use Rattle.rules.specs.Rows.{unless}
 use Rattle.rules.specs.History as H
 use Rattle.rules.specs.HandBack.{Emission, malformed}
@@ -96,7 +96,7 @@ module _ (h : Header) (E Z B : List ℕ) (mask : ℕ) (s : ReplyCheck) (T : List
   checks_stopped xs n = record { refused = λ _ c Q l. b.refused n c xs E Q Z l; passed = λ g. not_both g n; checked = λ g. not_both g n }
 
   checks_none : ChecksReply h E Z B mask [] s
-  unfolding any_malformed_emission rows_up_to unless count if◌then◌else◌
+  unfolding any_malformed_emission rows_up_to unless count if◌then◌otherwise◌
   checks_none = record {
     refused = λ n c Q l. b.refused n c [] E Q Z l;
     passed = λ g. (b.started g).passed;

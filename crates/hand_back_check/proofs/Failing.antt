@@ -6,7 +6,7 @@ use Prim.Native.Nat.{ℕ, ◌+◌, ◌-◌, ◌*◌, ◌≤◌, ◌<◌}
 use lib.ListN.{get_or}
 use Rattle.words.specs.Words.{tab}
 use Rattle.words.proofs.Tab.{tab_next, tab_none, tab_whole}
-use Rattle.rules.specs.Base.{if◌then◌else◌}
+use Rattle.rules.specs.Base.{if◌then◌otherwise◌}
 use Rattle.rules.specs.HandBack.{failed}
 use Rattle.records.specs.Records.{event_at, events_of, Owners}
 use Rattle.records.proofs.Stored.{event_to}
@@ -34,9 +34,9 @@ module _ (B : List ℕ) (n mask : ℕ) where
     this = ap (failed mask) (event_to B i) ∙ sym e
 
     pub failing_here : x ≡ true → get_or B (8 * i) 0 ≡ first_failed mask (events_of n B)
-    unfolding Failing first_failed if◌then◌else◌
+    unfolding Failing first_failed if◌then◌otherwise◌
     failing_here t = sym (f ∙ rw (tab_next (event_at B) i n l, this, t) (event_to B i))
 
     pub failing_more : x ≡ false → Failing (i + 1)
-    unfolding Failing first_failed if◌then◌else◌
+    unfolding Failing first_failed if◌then◌otherwise◌
     failing_more t = f ∙ rw (tab_next (event_at B) i n l, this, t)

@@ -6,7 +6,7 @@ use Prim.Native.Nat.{ℕ, ◌<◌}
 use native.Mathlib.Omega.{arith}
 use lib.Dec.{eqb}
 use borrow.Author.Tests.{lt-ltb, le-ltb, eq-eqb, ne_eqb, eqb-true}
-use Rattle.rules.specs.Base.{if◌then◌else◌, any}
+use Rattle.rules.specs.Base.{if◌then◌otherwise◌, any}
 use Rattle.rules.specs.State.{Event, State}
 use Rattle.rules.specs.Rows.{Row, unless}
 use Rattle.rules.specs.Pending.{first_of, first_tick, tick_or}
@@ -27,24 +27,24 @@ abbrev Well : ℕ → Emission → Type 0
 Well mask x = failed mask x.emitter ≡ false
 
 all_behind : (P : Emission → Type 0) (p : ℕ) (xs : List Emission) → All P xs → All P (behind p xs)
-unfolding behind if◌then◌else◌
+unfolding behind if◌then◌otherwise◌
 all_behind P p [] h = tt
 all_behind P p (x ∷ xs) h = by_bool (eqb x.emitter p) (λ b. rw b (all_behind P p xs h.1)) (λ b. rw b h)
 
 -- The first failed process is behind one that every event is behind.
 first_past : (mask p : ℕ) (es : List Event) → p < 64 → All (λ (f : Event). p < f.destination) es → p < first_failed mask es
-unfolding first_failed if◌then◌else◌
+unfolding first_failed if◌then◌otherwise◌
 first_past mask p [] l a = l
 first_past mask p (f ∷ fs) l a = by_bool (failed mask f.destination) (λ b. rw b a.0) (λ b. rw b (first_past mask p fs l a.1))
 
 module _ (s : State) (e : Event) (es : List Event) where
   -- Emissions of other processes do not see the event.
   tick_own : (p : ℕ) → p ≡ e.destination → first_tick (e ∷ es) p 0 ≡ e.tick
-  unfolding first_tick first_of tick_or if◌then◌else◌
+  unfolding first_tick first_of tick_or if◌then◌otherwise◌
   tick_own p h = rw (eq-eqb e.destination p (sym h))
 
   tick_other : (p : ℕ) → e.destination < p → first_tick (e ∷ es) p 0 ≡ first_tick es p 0
-  unfolding first_tick first_of tick_or if◌then◌else◌
+  unfolding first_tick first_of tick_or if◌then◌otherwise◌
   tick_other p h = rw (ne_eqb e.destination p (λ z. omega arith))
 
   module _ (f : ℕ) where
@@ -54,11 +54,11 @@ module _ (s : State) (e : Event) (es : List Event) where
     rows_past (x ∷ xs) a = λ i. rows_of_next s f (tick_other x.emitter a.0 i) x ++ rows_past xs a.1 i
 
     own_rows_holds : (x : Emission) → x.emitter ≡ e.destination → e.destination < f → rows_of_next s f (first_tick (e ∷ es) x.emitter 0) x ≡ rows_of s e.tick x
-    unfolding rows_of_next if◌then◌else◌
+    unfolding rows_of_next if◌then◌otherwise◌
     own_rows_holds x h l = rw (tick_own x.emitter h, le-ltb f x.emitter (omega arith))
 
     split_rows : e.destination < f → (xs : List Emission) → Pairs NotLater xs → All (From e.destination) xs → rows_up_to s (e ∷ es) f xs ≡ own_rows s e.tick e.destination xs ++ rows_up_to s es f (behind e.destination xs)
-    unfolding rows_up_to own_rows behind if◌then◌else◌
+    unfolding rows_up_to own_rows behind if◌then◌otherwise◌
     split_rows l [] o a = refl
     split_rows l (x ∷ xs) o a =
         by_bool (eqb x.emitter e.destination)
@@ -69,7 +69,7 @@ module _ (s : State) (e : Event) (es : List Event) where
 
 -- None is checked where the first process failed.
 none_checked : (s : State) (q : List Event) (f : ℕ) (xs : List Emission) → All (Past f) xs → rows_up_to s q f xs ≡ []
-unfolding rows_up_to rows_of_next if◌then◌else◌
+unfolding rows_up_to rows_of_next if◌then◌otherwise◌
 none_checked s q f [] a = refl
 none_checked s q f (x ∷ xs) a = rw (lt-ltb f x.emitter a.0) (none_checked s q f xs a.1)
 
@@ -85,7 +85,7 @@ nobody [] k = refl
 nobody (x ∷ xs) k = not_both k.0 refl
 
 pub rows_alike : (s : State) (mask : ℕ) (q : List Event) (xs : List Emission) → InTurn q xs → All Placed q → All (Well mask) xs → Same (process_rows s mask xs q) (rows_up_to s q (first_failed mask q) xs ++ failed_row (first_failed mask q))
-unfolding Same process_rows rows_up_to first_failed unless if◌then◌else◌
+unfolding Same process_rows rows_up_to first_failed unless if◌then◌otherwise◌
 rows_alike s mask [] xs t p w f d = rw (nobody xs t.known)
 rows_alike s mask (e ∷ es) xs t p w f d =
     ap (λ (r : List Row). unless r f d) (turn e es xs t s mask)

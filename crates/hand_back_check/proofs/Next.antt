@@ -12,7 +12,7 @@ use Rattle.types.specs.declared.SimTime.{SimTime}
 use Rattle.types.specs.Value.{ticks_of, lp_id_of}
 use Rattle.types.proofs.Halves.{lt_or_ge}
 use Rattle.words.specs.Words.{tick_at}
-use Rattle.rules.specs.Base.{if◌then◌else◌, any, any_of}
+use Rattle.rules.specs.Base.{if◌then◌otherwise◌, any, any_of}
 use Rattle.rules.specs.State.{Event, saturating_add}
 use Rattle.rules.specs.Pending.{first_tick, tick_or}
 use Rattle.rules.specs.HandBack as Rule
@@ -36,11 +36,11 @@ use Rattle.hand_back_check.specs.Checks.{Checkable, refused_with, checked_as, ti
 -- How many are remote.
 module _ (m : ℕ) (e : Emission) (x : Bool) (same : x ≡ eqb (lp_id_of e.destination) (lp_id_of e.source)) where
   pub at_home : x ≡ true → m ≡ counted m (emission_of e)
-  unfolding counted if◌then◌else◌
+  unfolding counted if◌then◌otherwise◌
   at_home h = rw (sym same ∙ h)
 
   pub remote : x ≡ false → (r : ℕ) → r ≡ saturating_add m 1 → r ≡ counted m (emission_of e)
-  unfolding counted if◌then◌else◌
+  unfolding counted if◌then◌otherwise◌
   remote h r s = s ∙ rw (sym same ∙ h)
 
 -- The emitter of an emission that is not malformed is in the batch.
@@ -65,11 +65,11 @@ module _ (h : Header) (L : ℕ) (T Z B : List ℕ) (a : ReplyCheck) (e : Emissio
   stays_refused t x E Q W f w rs j = checks_front rs _ a.outcome j x
 
   stays_behind : (t : ℕ) → a.failed < lp_id_of e.emitter → NextResult h L Z t a e a.outcome
-  unfolding NextResult rows_of_next if◌then◌else◌
+  unfolding NextResult rows_of_next if◌then◌otherwise◌
   stays_behind t l E Q W f w rs j = rw (lt-ltb a.failed (lp_id_of e.emitter) l, append-nil) j
 
   checks_it : a.outcome.passed ≡ true → lp_id_of e.emitter ≤ a.failed → (time : SimTime) → (v : CheckResult) → ChecksEmission h L Z e time v → NextResult h L Z (ticks_of time) a e v
-  unfolding NextResult rows_of_next if◌then◌else◌ ChecksEmission
+  unfolding NextResult rows_of_next if◌then◌otherwise◌ ChecksEmission
   checks_it x l time v j E Q W f w rs k = rw (le-ltb a.failed (lp_id_of e.emitter) l) (checks_same _ _ v (same_behind rs _ a.outcome k x) (j E Q W f w))
 
   pub check_stopped : a.going ≡ false → Checks h L T Z B a e a

@@ -4,7 +4,7 @@ use mathlib.Core.Bool.{Bool, true, false, ◌||◌, or_assoc, or-false}
 use mathlib.Core.List.{List, [], ◌∷◌, ◌++◌, append_assoc, append-nil}
 use Prim.Native.Nat.{ℕ, ◌+◌, min}
 use native.Mathlib.Omega.{arith}
-use Rattle.rules.specs.Base.{if◌then◌else◌, count}
+use Rattle.rules.specs.Base.{if◌then◌otherwise◌, count}
 use Rattle.rules.specs.State.{Event, State, saturating_add, max_count}
 use Rattle.rules.specs.Pending.{first_tick}
 use Rattle.rules.specs.HandBack.{Emission, is_remote}
@@ -21,16 +21,16 @@ unfolding any_malformed_emission last_of
 ill_snoc q mask last [] x = or-false _
 ill_snoc q mask last (y ∷ ys) x = ap (λ b. malformed_emission q mask last y || b) (ill_snoc q mask y.emitter ys x) ∙ sym (or_assoc (malformed_emission q mask last y) _ _)
 
-count_snoc : (xs : List Emission) (x : Emission) → count is_remote (xs ++ (x ∷ [])) ≡ count is_remote xs + (if is_remote x then 1 else 0)
+count_snoc : (xs : List Emission) (x : Emission) → count is_remote (xs ++ (x ∷ [])) ≡ count is_remote xs + (if is_remote x then 1 otherwise 0)
 unfolding count
 count_snoc [] x = omega arith
 count_snoc (y ∷ ys) x = omega (arith, count_snoc ys x)
 
 pub remote_snoc : (xs : List Emission) (x : Emission) → saturating_add 0 (count is_remote (xs ++ (x ∷ []))) ≡ counted (saturating_add 0 (count is_remote xs)) x
-unfolding counted if◌then◌else◌
+unfolding counted if◌then◌otherwise◌
 remote_snoc xs x = rw (count_snoc xs x) (go (is_remote x))
   where
-    go : (t : Bool) → min max_count (0 + (count is_remote xs + (if t then 1 else 0))) ≡ (if t then min max_count (min max_count (0 + count is_remote xs) + 1) else min max_count (0 + count is_remote xs))
+    go : (t : Bool) → min max_count (0 + (count is_remote xs + (if t then 1 otherwise 0))) ≡ (if t then min max_count (min max_count (0 + count is_remote xs) + 1) otherwise min max_count (0 + count is_remote xs))
     go true = omega arith
     go false = omega arith
 

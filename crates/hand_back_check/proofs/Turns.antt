@@ -6,7 +6,7 @@ use Prim.Native.Nat.{ℕ, ◌≤◌, ◌<◌}
 use native.Mathlib.Omega.{arith}
 use lib.Dec.{ltb, eqb}
 use borrow.Author.Tests.{ltb-true, ltb-false, eqb-true, eqb-false, ne_eqb}
-use Rattle.rules.specs.Base.{if◌then◌else◌, any, any_of, rising}
+use Rattle.rules.specs.Base.{if◌then◌otherwise◌, any, any_of, rising}
 use Rattle.rules.specs.State.{Event, State}
 use Rattle.rules.specs.Answers as A
 use Rattle.rules.specs.Rows.{Row, ◌⇒◌}
@@ -48,12 +48,12 @@ beyond p x h b = let n : (x.emitter ≡ p → ⊥) = eqb-false x.emitter p b in 
 module _ (s : State) where
   -- The emissions of an event, where they stand in front.
   none_past : (e : Event) (xs : List Emission) → All (Past e.destination) xs → emission_rows s e xs ≡ []
-  unfolding emission_rows if◌then◌else◌
+  unfolding emission_rows if◌then◌otherwise◌
   none_past e [] a = refl
   none_past e (x ∷ xs) a = let n : (x.emitter ≡ e.destination → ⊥) = λ z. omega (arith, a.0) in rw (ne_eqb x.emitter e.destination n) (none_past e xs a.1)
 
   own_first : (e : Event) (xs : List Emission) → Pairs NotLater xs → All (From e.destination) xs → emission_rows s e xs ≡ own_rows s e.tick e.destination xs
-  unfolding emission_rows own_rows rows_of if◌then◌else◌
+  unfolding emission_rows own_rows rows_of if◌then◌otherwise◌
   own_first e [] o a = refl
   own_first e (x ∷ xs) o a =
       by_bool (eqb x.emitter e.destination)
@@ -62,7 +62,7 @@ module _ (s : State) where
 
   -- A later event has none of them.
   skipped : (f : Event) (p : ℕ) (xs : List Emission) → p < f.destination → emission_rows s f xs ≡ emission_rows s f (behind p xs)
-  unfolding emission_rows behind if◌then◌else◌
+  unfolding emission_rows behind if◌then◌otherwise◌
   skipped f p [] h = refl
   skipped f p (x ∷ xs) h =
       by_bool (eqb x.emitter p)
@@ -78,7 +78,7 @@ module _ (s : State) where
   all_skipped mask p xs (f ∷ fs) a = λ i. (failed mask f.destination ⇒ A.HandlerFailed f.destination) ∷ (skipped f p xs a.0 i ++ all_skipped mask p xs fs a.1 i)
 
 behind_order : (p : ℕ) (xs : List Emission) → Pairs NotLater xs → Pairs NotLater (behind p xs)
-unfolding behind if◌then◌else◌
+unfolding behind if◌then◌otherwise◌
 behind_order p [] o = tt
 behind_order p (x ∷ xs) o = by_bool (eqb x.emitter p) (λ b. rw b (behind_order p xs o.1)) (λ b. rw b o)
 
@@ -100,7 +100,7 @@ module _ (e : Event) (es : List Event) where
   all_rest (x ∷ xs) a b = (in_rest x a.0 b.0, all_rest xs a.1 b.1)
 
   known_behind : (xs : List Emission) → Pairs NotLater xs → All (From e.destination) xs → All (In (e ∷ es)) xs → All (In es) (behind e.destination xs)
-  unfolding behind if◌then◌else◌
+  unfolding behind if◌then◌otherwise◌
   known_behind [] o a k = tt
   known_behind (x ∷ xs) o a k =
       by_bool (eqb x.emitter e.destination)

@@ -6,7 +6,7 @@ use Prim.Native.Nat.{ℕ}
 use native.Mathlib.Omega.{arith}
 use Rattle.words.specs.Words.{tab}
 use Rattle.records.specs.Records.{event_at, events_of}
-use Rattle.rules.specs.Base.{if◌then◌else◌, non_empty}
+use Rattle.rules.specs.Base.{if◌then◌otherwise◌, non_empty}
 use Rattle.rules.specs.State as R
 use Rattle.rules.specs.State.{Event, State, poison}
 use Rattle.rules.specs.Answers as A
@@ -41,21 +41,21 @@ none_is es e = rw e
 -- The rows, each with those before it passed.
 module _ (s : State) (c : R.Counters) (mask : ℕ) (xs : List Emission) (f : foreign s ≡ false) where
   row_12 : s.poisoned ≡ true → hand_back s c mask xs ≡ refuse s c A.Poisoned
-  unfolding hand_back unless if◌then◌else◌
+  unfolding hand_back unless if◌then◌otherwise◌
   row_12 p = rw (f, p)
 
   module _ (p : s.poisoned ≡ false) where
     row_25 : non_empty s.batch ≡ false → hand_back s c mask xs ≡ refuse s c A.NoBatch
-    unfolding hand_back unless if◌then◌else◌
+    unfolding hand_back unless if◌then◌otherwise◌
     row_25 b = rw (f, p, b)
 
     module _ (b : non_empty s.batch ≡ true) where
       row-26 : malformed s.batch mask xs ≡ true → hand_back s c mask xs ≡ refuse s c A.MalformedReply
-      unfolding hand_back unless if◌then◌else◌
+      unfolding hand_back unless if◌then◌otherwise◌
       row-26 m = rw (f, p, b, m)
 
       passed : malformed s.batch mask xs ≡ false → (x : Out) → unless (hand_back_rows s mask xs) (refuse s c) x ≡ x
-      unfolding unless if◌then◌else◌
+      unfolding unless if◌then◌otherwise◌
       passed m x = rw (f, p, b, m)
 
       judged : malformed s.batch mask xs ≡ false → hand_back s c mask xs ≡ unless (process_rows s mask xs s.batch) (poison_with s c) (settled s c xs)

@@ -10,7 +10,7 @@ use borrow.Author.Tests.{lt-ltb, le-ltb, ltb-true, ltb-false}
 use Rattle.types.specs.declared.LpId.{LpId}
 use Rattle.types.specs.Value.{lp_id_of, id_of_word}
 use Rattle.types.proofs.Ids.{id_of_small}
-use Rattle.rules.specs.Base.{if◌then◌else◌, up_to, any, any_of, count}
+use Rattle.rules.specs.Base.{if◌then◌otherwise◌, up_to, any, any_of, count}
 use Rattle.rules.specs.State.{Event, saturating_add, max_count, max_processes, max_pending}
 use Rattle.rules.specs.Rows.{Row, unless}
 use Rattle.rules.specs.Pending.{queue}
@@ -62,7 +62,7 @@ module _ (a : ReplyCheck) where
     }
 
     word_sound : 64 ≤ a.failed → Word a a.outcome
-    unfolding unless if◌then◌else◌ Same
+    unfolding unless if◌then◌otherwise◌ Same
     word_sound l = record {
       decides = λ rs j. record {
         passed = λ y f d. same_behind rs (failed_row a.failed) a.outcome j x f d ∙ rw (le-ltb a.failed 64 l);
@@ -73,20 +73,20 @@ module _ (a : ReplyCheck) where
     }
 
 count_most : (xs : List Emission) → count is_remote xs ≤ length xs
-unfolding count if◌then◌else◌
+unfolding count if◌then◌otherwise◌
 count_most [] = omega arith
 count_most (x ∷ xs) = go (is_remote x) (count_most xs)
   where
-    go : (t : Bool) → count is_remote xs ≤ length xs → (if t then 1 else 0) + count is_remote xs ≤ length (x ∷ xs)
+    go : (t : Bool) → count is_remote xs ≤ length xs → (if t then 1 otherwise 0) + count is_remote xs ≤ length (x ∷ xs)
     go true h = omega arith
     go false h = omega arith
 
 first_most : (mask : ℕ) (q : List Event) → All (λ (e : Event). e.destination < 64) q → first_failed mask q ≤ 64
-unfolding first_failed if◌then◌else◌
+unfolding first_failed if◌then◌otherwise◌
 first_most mask [] a = omega arith
 first_most mask (e ∷ es) a = go (failed mask e.destination) (first_most mask es a.1)
   where
-    go : (t : Bool) → first_failed mask es ≤ 64 → (if t then e.destination else first_failed mask es) ≤ 64
+    go : (t : Bool) → first_failed mask es ≤ 64 → (if t then e.destination otherwise first_failed mask es) ≤ 64
     go true h = omega (arith, a.0)
     go false h = h
 
@@ -138,21 +138,21 @@ module _ (h : Header) (c : Counters) (E Q Z B : List ℕ) (a : ReplyCheck) (k : 
 -- What the program's functions give.
 module _ (failed next pending k : ℕ) where
   pub refusal_27 : failed < 64 → (p : LpId) → lp_id_of p ≡ id_of_word failed → P.HandlerFailed p ≡ refusal_of failed next pending k
-  unfolding refusal_of if◌then◌else◌
+  unfolding refusal_of if◌then◌otherwise◌
   refusal_27 l p e = rw (lt-ltb failed 64 l) (λ i. P.HandlerFailed (record { 0 = (e ∙ id_of_small failed (omega arith)) i }))
 
   module _ (f : 64 ≤ failed) (x : Bool) (ex : x ≡ ltb max_count (next + k)) where
     pub refusal_19 : x ≡ true → P.EventSequenceOverflow ≡ refusal_of failed next pending k
-    unfolding refusal_of if◌then◌else◌
+    unfolding refusal_of if◌then◌otherwise◌
     refusal_19 t = rw (le-ltb failed 64 f, sym ex ∙ t)
 
     module _ (t : x ≡ false) (y : Bool) (ey : y ≡ ltb max_pending (pending + k)) where
       pub refusal_18 : y ≡ true → P.QueueFull ≡ refusal_of failed next pending k
-      unfolding refusal_of if◌then◌else◌
+      unfolding refusal_of if◌then◌otherwise◌
       refusal_18 u = rw (le-ltb failed 64 f, sym ex ∙ t, sym ey ∙ u)
 
       pub refusal_none : y ≡ false → P.Accepted ≡ refusal_of failed next pending k
-      unfolding refusal_of if◌then◌else◌
+      unfolding refusal_of if◌then◌otherwise◌
       refusal_none u = rw (le-ltb failed 64 f, sym ex ∙ t, sym ey ∙ u)
 
 pub accepts : (a : Answer) → a ≡ P.Accepted → Accepts a true

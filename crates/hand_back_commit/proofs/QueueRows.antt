@@ -11,7 +11,7 @@ use Rattle.types.specs.Value.{ticks_of}
 use Rattle.words.specs.Words.{tab}
 use Rattle.words.proofs.Tab.{length_tab}
 use Rattle.records.specs.Records.{event_at, events_of}
-use Rattle.rules.specs.Base.{if◌then◌else◌, count}
+use Rattle.rules.specs.Base.{if◌then◌otherwise◌, count}
 use Rattle.rules.specs.State as R
 use Rattle.rules.specs.State.{Event, State, Stored, stored, saturating_add, max_count, max_pending, with_handled}
 use Rattle.rules.specs.Answers as A
@@ -50,15 +50,15 @@ pub record Settles (h : Header) (c : Counters) (edges pending processes batch : 
 
 module _ (s : State) (c : R.Counters) (xs : List Emission) where
   row_19 : ltb max_count (s.next + length xs) ≡ true → settled s c xs ≡ poison_with s c A.EventSequenceOverflow
-  unfolding settled unless if◌then◌else◌
+  unfolding settled unless if◌then◌otherwise◌
   row_19 a = rw a
 
   row_18 : ltb max_count (s.next + length xs) ≡ false → ltb max_pending (length s.pending + length xs) ≡ true → settled s c xs ≡ poison_with s c A.QueueFull
-  unfolding settled unless if◌then◌else◌
+  unfolding settled unless if◌then◌otherwise◌
   row_18 a b = rw (a, b)
 
   passed : ltb max_count (s.next + length xs) ≡ false → ltb max_pending (length s.pending + length xs) ≡ false → (l : Stored) → s.stored ≡ l → settled s c xs ≡ commit_at s c l xs
-  unfolding settled unless if◌then◌else◌
+  unfolding settled unless if◌then◌otherwise◌
   passed a b l e = rw (a, b, e)
 
   commits : (h b : ℕ) → commit_at s c (stored h b) xs ≡ round_ended (handled s xs) (count_round c s.batch xs) h b

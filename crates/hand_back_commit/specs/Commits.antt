@@ -1,7 +1,7 @@
 -- What the end of a reply asks and leaves, in the words of the rules.
 use Rattle.std.specs.Prelude.{◌≡◌, Bool, true, false, List, ℕ, ◌+◌, ◌-◌, ◌*◌, ◌^◌, ◌≤◌, ◌<◌, ltb, length}
 use Rattle.types.specs.Value.{ticks_of}
-use Rattle.rules.specs.Base.{if◌then◌else◌, count}
+use Rattle.rules.specs.Base.{if◌then◌otherwise◌, count}
 use Rattle.rules.specs.State.{saturating_add, max_count, max_pending}
 use Rattle.rules.specs.Pending.{queue}
 use Rattle.rules.specs.HandBack.{Emission, malformed, messages, is_remote}
@@ -47,9 +47,9 @@ pub record Fits (next pending k : ℕ) : Type 0 where
 unfoldable pub refusal_of : ℕ → ℕ → ℕ → ℕ → Answer
 refusal_of failed next pending k =
     if ltb failed 64 then P.HandlerFailed (record { 0 = failed })
-    else if ltb max_count (next + k) then P.EventSequenceOverflow
-    else if ltb max_pending (pending + k) then P.QueueFull
-    else P.Accepted
+    otherwise if ltb max_count (next + k) then P.EventSequenceOverflow
+    otherwise if ltb max_pending (pending + k) then P.QueueFull
+    otherwise P.Accepted
 
 -- Whether an answer is Accepted.
 pub record Accepts (a : Answer) (b : Bool) : Type 0 where

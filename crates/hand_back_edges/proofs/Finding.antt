@@ -16,7 +16,7 @@ use Rattle.types.proofs.Halves.{lt_or_ge}
 use Rattle.words.specs.Words.{tab, tick_at}
 use Rattle.words.proofs.Tab.{tab_step, tab_none, tab_whole}
 use Rattle.records.specs.Records.{edge_at, edges_of}
-use Rattle.rules.specs.Base.{if◌then◌else◌}
+use Rattle.rules.specs.Base.{if◌then◌otherwise◌}
 use Rattle.rules.specs.Pending.{lookahead_along}
 use Rattle.rules.proofs.Tests.{by_test, by_bool, and_left, and_right, and_both, not_both}
 use Rattle.reply_words.specs.declared.Emission.{Emission}
@@ -27,7 +27,7 @@ use Rattle.hand_back_edges.specs.Looks.{Looks, entry_lookahead, entry_place, loo
 -- What is read off a table.
 module _ (E t T : List ℕ) (a b : ℕ) where
   pub no_row : get_or T a 0 ≡ 0 → look_in_table E t T a b ≡ 0
-  unfolding look_in_table if◌then◌else◌
+  unfolding look_in_table if◌then◌otherwise◌
   no_row z = rw (eq-eqb (get_or T a 0) 0 z)
 
   pub no_column : 64 ≤ b → look_in_table E t T a b ≡ 0
@@ -35,7 +35,7 @@ module _ (E t T : List ℕ) (a b : ℕ) where
   no_column l = by_test (λ (x : ℕ). x ≡ 0) (λ _. refl) (λ _. by_test (λ (x : ℕ). x ≡ 0) (λ h. absurd (omega (arith, ltb-true b 64 h))) (λ _. refl))
 
   pub in_row : (get_or T a 0 ≡ 0 → ⊥) → b < 64 → look_in_table E t T a b ≡ entry_lookahead E (get_or t (entry_place T a b) 0)
-  unfolding look_in_table if◌then◌else◌
+  unfolding look_in_table if◌then◌otherwise◌
   in_row p l = rw (ne_eqb (get_or T a 0) 0 p, lt-ltb b 64 l)
 
 -- Two entries at the same place.

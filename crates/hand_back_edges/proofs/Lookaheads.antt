@@ -15,7 +15,7 @@ use Rattle.types.proofs.Halves.{lt_or_ge}
 use Rattle.words.specs.Words.{tick_at, tick_of, put_tick}
 use Rattle.words.proofs.Ticks.{tick_same, tick_other}
 use Rattle.records.specs.Records.{edge_at, edges_of}
-use Rattle.rules.specs.Base.{if◌then◌else◌}
+use Rattle.rules.specs.Base.{if◌then◌otherwise◌}
 use Rattle.rules.specs.Pending.{lookahead_along}
 use Rattle.rules.proofs.Tests.{by_test, and_left, and_right, and_both, not_both}
 use Rattle.reply_words.specs.declared.Emission.{Emission}
@@ -27,11 +27,11 @@ use Rattle.hand_back_edges.proofs.Finding.{Looking, looking_start, looking_more,
 -- What is read off a table.
 module _ (w : List ℕ) (a b : ℕ) where
   in_column : b < 64 → lookahead_in w a b ≡ tick_of w (64 * a + b)
-  unfolding lookahead_in if◌then◌else◌
+  unfolding lookahead_in if◌then◌otherwise◌
   in_column l = rw (lt-ltb b 64 l)
 
   no_column : 64 ≤ b → lookahead_in w a b ≡ 0
-  unfolding lookahead_in if◌then◌else◌
+  unfolding lookahead_in if◌then◌otherwise◌
   no_column l = rw (le-ltb b 64 l)
 
 -- Two pairs at the same place.

@@ -9,7 +9,7 @@ use lib.ListN.{length, get_or}
 use borrow.Author.Tests.{eqb-true, eqb-false}
 use Rattle.words.specs.Words.{zeroes}
 use Rattle.records.specs.Records.{event_at, events_of}
-use Rattle.rules.specs.Base.{if◌then◌else◌, some}
+use Rattle.rules.specs.Base.{if◌then◌otherwise◌, some}
 use Rattle.rules.specs.State.{Event}
 use Rattle.rules.specs.Pending.{first_of}
 use Rattle.rules.proofs.Tests.{by_bool}
@@ -18,11 +18,11 @@ use Rattle.reply_words.proofs.Table.{place_first}
 use Rattle.hand_back_edges.specs.Looks.{Rows}
 
 first_owner : (q : List Event) (p : ℕ) (e : Event) → first_of q p ≡ some e → e.destination ≡ p
-unfolding first_of if◌then◌else◌
+unfolding first_of if◌then◌otherwise◌
 first_owner [] p e h = let z : ◌≡◌ {A = ℕ} 0 1 = cc in absurd (omega arith)
 first_owner (f ∷ fs) p e h = go (eqb f.destination p) refl h (first_owner fs p e)
   where
-    go : (t : Bool) → eqb f.destination p ≡ t → (if t then some f else first_of fs p) ≡ some e → (first_of fs p ≡ some e → e.destination ≡ p) → e.destination ≡ p
+    go : (t : Bool) → eqb f.destination p ≡ t → (if t then some f otherwise first_of fs p) ≡ some e → (first_of fs p ≡ some e → e.destination ≡ p) → e.destination ≡ p
     go true b s ih = let x : f ≡ e = cc in rw (← x) (eqb-true f.destination p b)
     go false b s ih = ih s
 

@@ -2,14 +2,14 @@
 use Rattle.std.specs.Prelude.{◌≡◌, false, List, ℕ, ◌+◌, ◌*◌, ◌≤◌, ltb, length, get_or}
 use Rattle.words.specs.Words.{tick_of}
 use Rattle.records.specs.Records.{edges_of}
-use Rattle.rules.specs.Base.{if◌then◌else◌, any}
+use Rattle.rules.specs.Base.{if◌then◌otherwise◌, any}
 use Rattle.rules.specs.State.{Edge}
 use Rattle.rules.specs.Foreign.{unknown_id_edge}
 use Rattle.hand_back_edges.specs.Looks.{Looks, LooksMore}
 
 -- The lookahead from a to b by the table w.
 unfoldable pub lookahead_in : List ℕ → ℕ → ℕ → ℕ
-lookahead_in w a b = if ltb b 64 then tick_of w (64 * a + b) else 0
+lookahead_in w a b = if ltb b 64 then tick_of w (64 * a + b) otherwise 0
 
 -- From the table w to u, the edge e is put in, whichever processes have places.
 unfoldable pub PutsLookahead : Edge → List ℕ → List ℕ → Type 0

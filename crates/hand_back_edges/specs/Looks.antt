@@ -1,7 +1,7 @@
 -- Edges as a table with a row of 64 entries for each event in hand, so that the lookahead of an emission's edge is one lookup.
 use Rattle.std.specs.Prelude.{◌≡◌, false, List, ◌∷◌, ℕ, zero, suc, ◌+◌, ◌-◌, ◌*◌, ◌≤◌, ◌<◌, ltb, eqb, length, get_or}
 use Rattle.records.specs.Records.{edge_at, edges_of}
-use Rattle.rules.specs.Base.{if◌then◌else◌, any}
+use Rattle.rules.specs.Base.{if◌then◌otherwise◌, any}
 use Rattle.rules.specs.State.{Edge}
 use Rattle.rules.specs.Pending.{lookahead_along}
 use Rattle.rules.specs.Foreign.{unknown_id_edge}
@@ -23,8 +23,8 @@ entry_place T a b = 64 * (get_or T a 0 - 1) + b
 unfoldable pub look_in_table : List ℕ → List ℕ → List ℕ → ℕ → ℕ → ℕ
 look_in_table E t T a b =
     if eqb (get_or T a 0) 0 then 0
-    else if ltb b 64 then entry_lookahead E (get_or t (entry_place T a b) 0)
-    else 0
+    otherwise if ltb b 64 then entry_lookahead E (get_or t (entry_place T a b) 0)
+    otherwise 0
 
 -- The places T have rows in a table of n entries, each process its own.
 pub record Rows (T : List ℕ) (n : ℕ) : Type 0 where

@@ -2,7 +2,7 @@
 use mathlib.Core.Path.{◌≡◌, refl, sym, ap, ◌∙◌}
 use mathlib.Core.Bool.{true, false, true≢false}
 use mathlib.Core.List.{List, [], ◌∷◌, ◌++◌}
-use Rattle.rules.specs.Base.{if◌then◌else◌}
+use Rattle.rules.specs.Base.{if◌then◌otherwise◌}
 use Rattle.rules.specs.State.{Event, poison}
 use Rattle.rules.specs.Answers as A
 use Rattle.rules.specs.Answers.{Refusal}
@@ -27,7 +27,7 @@ nothing = record { passed = λ x f d. refl; refused = λ x. absurd (true≢false
 
 -- The first row decides.
 pub struck : (r : Row) (rs : List Row) (a : Answer) → r.test ≡ true → ((es : List Event) → answer_of es a ≡ A.Refused r.refusal) → ChecksRows (r ∷ rs) (refusing a)
-unfolding unless if◌then◌else◌
+unfolding unless if◌then◌otherwise◌
 struck r rs a t e = record {
   passed = λ x. absurd (true≢false (sym x));
   refused = λ x s c d es. rw t (ap (λ (y : A.Answer). out y (poison s) c) (sym (e es)));
@@ -38,7 +38,7 @@ unfoldable pub Same : List Row → List Row → Type 0
 Same rs ts = (f : Refusal → Out) (d : Out) → unless rs f d ≡ unless ts f d
 
 pub passed_by : (r : Row) (rs : List Row) → r.test ≡ false → Same (r ∷ rs) rs
-unfolding Same unless if◌then◌else◌
+unfolding Same unless if◌then◌otherwise◌
 passed_by r rs t f d = rw t
 
 pub checks_same : (rs ts : List Row) (v : CheckResult) → Same rs ts → ChecksRows ts v → ChecksRows rs v

@@ -14,7 +14,7 @@ use Rattle.types.specs.declared.Added.TheVariants.{Sum, Overflow}
 use Rattle.types.specs.Value.{halves, ticks_of, duration_of, lp_id_of, IsSum}
 use Rattle.types.proofs.Halves.{Whole, halves_fit}
 use Rattle.words.specs.Words.{tab, tick_at, horizons_of}
-use Rattle.rules.specs.Base.{if◌then◌else◌, any}
+use Rattle.rules.specs.Base.{if◌then◌otherwise◌, any}
 use Rattle.rules.specs.Answers as A
 use Rattle.rules.specs.State.{Edge}
 use Rattle.rules.specs.Pending.{joins, route, lookahead_along}
@@ -37,11 +37,11 @@ module _ (e : Emission) (time : SimTime) (l : SimDuration) where
 
   module _ (x : Bool) (same : x ≡ eqb (lp_id_of e.destination) (lp_id_of e.emitter)) where
     pub own_minimum : x ≡ true → Whole time.hi time.lo → IsSum least (Sum time)
-    unfolding minimum if◌then◌else◌
+    unfolding minimum if◌then◌otherwise◌
     own_minimum o w = rw (sym same ∙ o) (halves_fit time.hi time.lo w, refl)
 
     pub far_minimum : x ≡ false → (r : Added) → IsSum (ticks_of time + duration_of l) r → IsSum least r
-    unfolding minimum if◌then◌else◌
+    unfolding minimum if◌then◌otherwise◌
     far_minimum n r a = rw (sym same ∙ n) a
 
 -- A list by index at one of its places.
@@ -91,11 +91,11 @@ positive = halves_fit 0 0 (record { upper = omega arith; lower = omega arith })
 
 -- An edge leads from a to b where the lookahead there is above 0.
 edge_or_none : (es : List Edge) (a b : ℕ) → any without_lookahead es ≡ false → any (joins a b) es ≡ not (eqb (lookahead_along es a b) 0)
-unfolding any lookahead_along if◌then◌else◌
+unfolding any lookahead_along if◌then◌otherwise◌
 edge_or_none [] a b h = refl
 edge_or_none (e ∷ es) a b h = go (joins a b e) (or_left (without_lookahead e) (any without_lookahead es) h) (edge_or_none es a b (or_right (without_lookahead e) (any without_lookahead es) h))
   where
-    go : (t : Bool) → without_lookahead e ≡ false → any (joins a b) es ≡ not (eqb (lookahead_along es a b) 0) → (t || any (joins a b) es) ≡ not (eqb (if t then e.lookahead else lookahead_along es a b) 0)
+    go : (t : Bool) → without_lookahead e ≡ false → any (joins a b) es ≡ not (eqb (lookahead_along es a b) 0) → (t || any (joins a b) es) ≡ not (eqb (if t then e.lookahead otherwise lookahead_along es a b) 0)
     go true f ih = sym (ap not f)
     go false f ih = ih
 

@@ -7,7 +7,7 @@ use Rattle.types.specs.declared.SimTime.{SimTime}
 use Rattle.types.specs.Value.{ticks_of}
 use Rattle.words.specs.Words.{horizons_of}
 use Rattle.records.specs.Records.{events_of}
-use Rattle.rules.specs.Base.{if◌then◌else◌}
+use Rattle.rules.specs.Base.{if◌then◌otherwise◌}
 use Rattle.rules.specs.State as R
 use Rattle.rules.specs.State.{State, saturating_add, closed, with_bounds}
 use Rattle.rules.specs.Answers as A
@@ -50,11 +50,11 @@ pub leaves : (a : Answer) (c : Counters) (g h : Header) → g ≡ h → after a 
 leaves a c g h e = ap (after a c) e
 
 ended_spent : (t : State) (c : R.Counters) (h b : ℕ) → spent t h b ≡ true → round_ended t c h b ≡ out (A.Refused (A.EventBudgetExceeded b)) (closed t) c
-unfolding round_ended if◌then◌else◌
+unfolding round_ended if◌then◌otherwise◌
 ended_spent t c h b e = rw e
 
 ended_fresh : (t : State) (c : R.Counters) (h b : ℕ) → spent t h b ≡ false → let u = refreshed t h t.edges t.inbound t.horizons in round_ended t c h b ≡ out (A.Committed u.gvt) u c
-unfolding round_ended if◌then◌else◌
+unfolding round_ended if◌then◌otherwise◌
 ended_fresh t c h b e = rw e
 
 -- The refresh.

@@ -2,7 +2,7 @@
 use Rattle.std.specs.Prelude.{◌≡◌, false, List, ℕ, ◌*◌, ◌^◌, ◌-◌, ◌≤◌, ◌<◌, length}
 use Rattle.types.specs.Value.{ticks_of}
 use Rattle.records.specs.Records.{events_of}
-use Rattle.rules.specs.Base.{if◌then◌else◌, count}
+use Rattle.rules.specs.Base.{if◌then◌otherwise◌, count}
 use Rattle.rules.specs.State as R
 use Rattle.rules.specs.State.{Event, State, closed}
 use Rattle.rules.specs.Answers as A
@@ -33,7 +33,7 @@ unfoldable pub round_ended : State → R.Counters → ℕ → ℕ → Out
 round_ended t c horizon budget =
     let u = refreshed t horizon t.edges t.inbound t.horizons in
     if spent t horizon budget then out (A.Refused (A.EventBudgetExceeded budget)) (closed t) c
-    else out (A.Committed u.gvt) u c
+    otherwise out (A.Committed u.gvt) u c
 
 pub record CanEndRound (h : Header) (pending processes : List ℕ) : Type 0 where
   pub few : h.n ≤ 64

@@ -12,7 +12,7 @@ use lib.Dec.{ltb}
 use borrow.Author.Tests.{ltb-true}
 use Rattle.types.proofs.Halves.{lt_or_ge}
 use Rattle.words.proofs.Ticks.{tick_cong}
-use Rattle.rules.specs.Base.{if◌then◌else◌}
+use Rattle.rules.specs.Base.{if◌then◌otherwise◌}
 use Rattle.rules.specs.State.{Edge}
 use Rattle.rules.proofs.Tests.{by_bool}
 use Rattle.reply_words.proofs.Table.{past_end}
@@ -96,7 +96,7 @@ module _ (w : List ℕ) (a b : ℕ) (l : a < 64) where
   front k h = get_or-take 8192 w k 0 h
 
   look_front : lookahead_in (take 8192 w) a b ≡ lookahead_in w a b
-  unfolding lookahead_in if◌then◌else◌
+  unfolding lookahead_in if◌then◌otherwise◌
   look_front =
       by_bool (ltb b 64)
       (λ t.

@@ -12,7 +12,7 @@ use Rattle.bits.specs.Bits.{bits_of, value_of}
 use Rattle.bits.specs.Bytes.{stream, Bytes}
 use Rattle.bits.proofs.Fields.{length_bits, value_bits, bits_value}
 use Rattle.bits.proofs.Streams.{length_stream, stream_pack, pack_stream}
-use Rattle.rules.specs.Base.{if◌then◌else◌}
+use Rattle.rules.specs.Base.{if◌then◌otherwise◌}
 use Rattle.rules.specs.State.{Message}
 use Rattle.rules.proofs.Lists.{all_map}
 use Rattle.plan_file.specs.Format.{Got.got, Reads, field, pair, counted, seen}
@@ -31,7 +31,7 @@ unfolding encode
 stream_encode p = stream_pack (length (padded p) / 8) (padded p) (length_padded p)
 
 pub decode_encode : (p : Plan) → plan.In p → length (encode p) ≤ 16384 → decode (encode p) ≡ contents p
-unfolding decode ended if◌then◌else◌ padded padding
+unfolding decode ended if◌then◌otherwise◌ padded padding
 decode_encode p h l =
     let n = padding (length (plan.put p)) in
     let z : value_of (bits_of n 0) ≡ 0 = value_bits n 0 ∙ zero-mod (2 ^ n) in

@@ -12,7 +12,7 @@ use borrow.Author.Tests.{ltb-true, ltb-false, eqb-true, lt-ltb, le-ltb, eq-eqb, 
 use Rattle.bits.specs.Bits.{value_of}
 use Rattle.bits.specs.Bytes.{stream}
 use Rattle.bits.proofs.Streams.{length_stream}
-use Rattle.rules.specs.Base.{if◌then◌else◌}
+use Rattle.rules.specs.Base.{if◌then◌otherwise◌}
 use Rattle.plan_file.specs.Format.{Got, Got.short, Got.got}
 use Rattle.plan_file.specs.Plan.{Plan}
 use Rattle.plan_file.specs.Grammar.{plan}
@@ -30,11 +30,11 @@ pub record Decoded (s : List ℕ) (p : Plan) : Type 0 where
   pub zero : value_of behind ≡ 0
 
 pub decoded : (s : List ℕ) (p : Plan) → decode s ≡ contents p → Decoded s p
-unfolding decode ended if◌then◌else◌
+unfolding decode ended if◌then◌otherwise◌
 decoded s p = by_size (ltb 16384 (length s)) refl
   where
     by_tests : length s ≤ 16384 → (q : Plan) (r : List Bool) → plan.get (stream s) ≡ got q r → (t u : Bool) → ltb (length r) 8 ≡ t → eqb (value_of r) 0 ≡ u
-        → (if t then (if u then contents q else refused 37) else refused 37) ≡ contents p → Decoded s p
+        → (if t then (if u then contents q otherwise refused 37) otherwise refused 37) ≡ contents p → Decoded s p
     by_tests h q r g false u a b e = let z : ◌≡◌ {A = ℕ} 0 1 = cc in absurd (omega arith)
     by_tests h q r g true false a b e = let z : ◌≡◌ {A = ℕ} 0 1 = cc in absurd (omega arith)
     by_tests h q r g true true a b e = record { behind = r; size = h; reads = cc; few = ltb-true _ _ a; zero = eqb-true _ _ b }
@@ -43,21 +43,21 @@ decoded s p = by_size (ltb 16384 (length s)) refl
     by_reading h short g e = let z : ◌≡◌ {A = ℕ} 0 1 = cc in absurd (omega arith)
     by_reading h (got q r) g e = by_tests h q r g (ltb (length r) 8) (eqb (value_of r) 0) refl refl e
 
-    by_size : (t : Bool) → ltb 16384 (length s) ≡ t → (if t then refused 38 else ended (plan.get (stream s))) ≡ contents p → Decoded s p
+    by_size : (t : Bool) → ltb 16384 (length s) ≡ t → (if t then refused 38 otherwise ended (plan.get (stream s))) ≡ contents p → Decoded s p
     by_size true h e = let z : ◌≡◌ {A = ℕ} 0 1 = cc in absurd (omega arith)
     by_size false h e = by_reading (ltb-false _ _ h) (plan.get (stream s)) refl e
 
 -- The number by what is left.
 unfoldable left_number : Got (Unit {0}) → ℕ
 left_number short = 37
-left_number (got a r) = if ltb (length r) 8 then (if eqb (value_of r) 0 then 0 else 37) else 37
+left_number (got a r) = if ltb (length r) 8 then (if eqb (value_of r) 0 then 0 otherwise 37) otherwise 37
 
 number_left : (x : Got Plan) → number_of (ended x) ≡ left_number (rest x)
-unfolding ended rest left_number if◌then◌else◌
+unfolding ended rest left_number if◌then◌otherwise◌
 number_left short = refl
 number_left (got p r) = by_tests (ltb (length r) 8) (eqb (value_of r) 0)
   where
-    by_tests : (t u : Bool) → number_of (if t then (if u then contents p else refused 37) else refused 37) ≡ (if t then (if u then 0 else 37) else 37)
+    by_tests : (t u : Bool) → number_of (if t then (if u then contents p otherwise refused 37) otherwise refused 37) ≡ (if t then (if u then 0 otherwise 37) otherwise 37)
     by_tests true true = refl
     by_tests true false = refl
     by_tests false u = refl
@@ -72,20 +72,20 @@ Refusal (contents p) = Unit {0}
 Refusal (refused k) = (k ≡ 37) ⊎ (k ≡ 38)
 
 refusal_ended : (x : Got Plan) → Refusal (ended x)
-unfolding ended if◌then◌else◌ Refusal
+unfolding ended if◌then◌otherwise◌ Refusal
 refusal_ended short = inl refl
 refusal_ended (got p r) = by_tests (ltb (length r) 8) (eqb (value_of r) 0)
   where
-    by_tests : (t u : Bool) → Refusal (if t then (if u then contents p else refused 37) else refused 37)
+    by_tests : (t u : Bool) → Refusal (if t then (if u then contents p otherwise refused 37) otherwise refused 37)
     by_tests true true = tt
     by_tests true false = inl refl
     by_tests false u = inl refl
 
 refusal : (s : List ℕ) → Refusal (decode s)
-unfolding decode if◌then◌else◌ Refusal
+unfolding decode if◌then◌otherwise◌ Refusal
 refusal s = by_size (ltb 16384 (length s))
   where
-    by_size : (t : Bool) → Refusal (if t then refused 38 else ended (plan.get (stream s)))
+    by_size : (t : Bool) → Refusal (if t then refused 38 otherwise ended (plan.get (stream s)))
     by_size true = inr refl
     by_size false = refusal_ended (plan.get (stream s))
 
@@ -118,12 +118,12 @@ refused_checks s r k h e d = record {
 
 module _ (s : List ℕ) (r : Parts) where
   pub too_long : 16384 < length s → r ≡ nothing_beside 38 → Checks s r
-  unfolding decode if◌then◌else◌
+  unfolding decode if◌then◌otherwise◌
   too_long h e = refused_checks s r 38 (omega arith) e (rw (lt-ltb 16384 (length s) h))
 
   module _ (h : length s ≤ 16384) where
     number_is : number_of (decode s) ≡ left_number (rest (plan.get (stream s)))
-    unfolding decode if◌then◌else◌
+    unfolding decode if◌then◌otherwise◌
     number_is = rw (le-ltb 16384 (length s) h) (number_left (plan.get (stream s)))
 
     pub too_short : rest (plan.get (stream s)) ≡ short → r ≡ nothing_beside 37 → Checks s r
@@ -141,7 +141,7 @@ module _ (s : List ℕ) (r : Parts) where
       number_at = number_is ∙ ap left_number w.ends
 
       pub left_over : 8 ≤ length s * 8 - end → r ≡ nothing_beside 37 → Checks s r
-      unfolding left_number if◌then◌else◌
+      unfolding left_number if◌then◌otherwise◌
       left_over l e = let m : 8 ≤ length left = rw left-length l in refused_checks s r 37 (omega arith) e (number_at ∙ rw (le-ltb (length left) 8 m))
 
       module _ (l : length s * 8 - end < 8) (v : ℕ) (q : v ≡ value_of (take (length s * 8 - end) left)) where
@@ -152,11 +152,11 @@ module _ (s : List ℕ) (r : Parts) where
         left_lt = rw left-length l
 
         pub set_padding : (v ≡ 0 → ⊥) → r ≡ nothing_beside 37 → Checks s r
-        unfolding left_number if◌then◌else◌
+        unfolding left_number if◌then◌otherwise◌
         set_padding z e = refused_checks s r 37 (omega arith) e (number_at ∙ rw (lt-ltb (length left) 8 left_lt, ne_eqb (value_of left) 0 (λ o. z (value-is ∙ o))))
 
         number-zero : v ≡ 0 → number_of (decode s) ≡ 0
-        unfolding left_number if◌then◌else◌
+        unfolding left_number if◌then◌otherwise◌
         number-zero z = number_at ∙ rw (lt-ltb (length left) 8 left_lt, eq-eqb (value_of left) 0 (sym value-is ∙ z))
 
         pub passes : v ≡ 0 → Checks s parts

@@ -2,7 +2,7 @@
 use Rattle.std.specs.Prelude.{ℕ, ◌+◌, ◌^◌, ◌≡◌, List, [], ◌∷◌, ◌++◌, replicate}
 use Rattle.bits.specs.Bits.{bit, odd, bits_of, value_of}
 use Rattle.bits.specs.Bytes.{stream, pack}
-use Rattle.rules.specs.Base.{if◌then◌else◌}
+use Rattle.rules.specs.Base.{if◌then◌otherwise◌}
 use Rattle.plan_file.specs.Format.{next, get_field, field, pair, puts, gets, counted, seen}
 use Rattle.plan_file.specs.Plan.{Plan}
 use Rattle.plan_file.specs.Grammar.{edge, message, reply, plan}
@@ -10,7 +10,7 @@ use Rattle.plan_file.specs.File.{Answer.refused, Answer.contents, ended, decode,
 
 -- One name that opens all of them.
 unfoldable pub by_computation : Type 0
-unfolding bit odd bits_of value_of stream pack next get_field field pair puts gets counted seen if◌then◌else◌ ended decode padding padded encode edge message reply plan
+unfolding bit odd bits_of value_of stream pack next get_field field pair puts gets counted seen if◌then◌otherwise◌ ended decode padding padded encode edge message reply plan
 by_computation = ℕ
 
 unfoldable pub c1 : Plan

@@ -15,7 +15,7 @@ use Rattle.types.proofs.Ids.{id_of_small}
 use Rattle.types.proofs.Halves.{lt_or_ge}
 use Rattle.words.specs.Words.{tab}
 use Rattle.records.specs.Records.{byte_of, payload_byte, payload_of}
-use Rattle.rules.specs.Base.{if◌then◌else◌}
+use Rattle.rules.specs.Base.{if◌then◌otherwise◌}
 use Rattle.bits.specs.Bits.{value_of}
 use Rattle.bits.proofs.Fields.{value_take, value_append, slice}
 use Rattle.plan_file.specs.Format.{field}
@@ -79,13 +79,13 @@ tab_of f i (x ∷ xs) h =
 module _ (b : List Bool) (at n first second hi lo : ℕ) (room : at + n * 8 ≤ length b) (f : first ≡ min n 8) (s : second ≡ min (n - first) 8)
     (h : hi ≡ value_of (take (first * 8) (drop at b)) * 2 ^ (64 - first * 8)) (l : lo ≡ value_of (take (second * 8) (drop (at + first * 8) b)) * 2 ^ (64 - second * 8)) where
   upper : (k : ℕ) → k < n → k < 8 → payload_byte hi lo k ≡ value_of (take 8 (drop (k * 8) (drop at b)))
-  unfolding payload_byte if◌then◌else◌
+  unfolding payload_byte if◌then◌otherwise◌
   upper k a c =
       let m : first * 8 ≤ length (drop at b) = rw length-drop (omega arith) in
       rw (lt-ltb k 8 c, h) (byte_is (drop at b) first k (omega arith) (omega arith) m)
 
   lower : (k : ℕ) → k < n → 8 ≤ k → k < 16 → payload_byte hi lo k ≡ value_of (take 8 (drop (k * 8) (drop at b)))
-  unfolding payload_byte if◌then◌else◌
+  unfolding payload_byte if◌then◌otherwise◌
   lower k a c d =
       let m : second * 8 ≤ length (drop (at + first * 8) b) = rw length-drop (omega arith) in
       let e : at + first * 8 + (k - 8) * 8 ≡ at + k * 8 = omega arith in

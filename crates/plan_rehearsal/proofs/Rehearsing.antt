@@ -9,7 +9,7 @@ use lib.ListN.{length}
 use borrow.Author.Tests.{leb-true, leb-false, ltb-false, lt-ltb, le-ltb}
 use Rattle.types.specs.Value.{halves, ticks_of}
 use Rattle.words.specs.Words.{zeroes}
-use Rattle.rules.specs.Base.{if◌then◌else◌}
+use Rattle.rules.specs.Base.{if◌then◌otherwise◌}
 use Rattle.rules.specs.State as R
 use Rattle.rules.specs.Answers.{Accepted, refusal_number, number}
 use Rattle.rules.specs.Build.{BuildOut, build}
@@ -37,7 +37,7 @@ use Rattle.plan_rehearsal.specs.Rehearses.{HandsOver, number_for, early_number}
 
 -- A text that the slice holds, or not.
 pub hands_over : (text old new : List ℕ) (b : Bool) (r : ℕ) → Holds (length old) text new b → r ≡ number_for b → HandsOver (listed text) old new r
-unfolding handed_over if◌then◌else◌
+unfolding handed_over if◌then◌otherwise◌
 hands_over text old new b r h e =
     by_bool (leb (length text) (length old))
     (λ t.
@@ -71,7 +71,7 @@ module _ (p : Plan) where
 
   -- 1, 2 and 5 without rows.
   pub early_refused : (n : ℕ) → n ≡ early_number p.n p.lookahead (length p.edges) → 0 < n → rehearsed p ≡ listed (end_line n 0 0 0)
-  unfolding early_number if◌then◌else◌ refusal_number
+  unfolding early_number if◌then◌otherwise◌ refusal_number
   early_refused n e l =
       by_bool (eqb p.n 0 || ltb 64 p.n)
       (λ a. rehearsed_refused p _ ((builds p R.zeros).one a) ∙ ap (λ (k : ℕ). listed (end_line k 0 0 0)) (sym (rw a at e)))
@@ -88,7 +88,7 @@ module _ (p : Plan) where
     pub few : p.n ≤ 64
 
   pub early_passed : (n : ℕ) → n ≡ early_number p.n p.lookahead (length p.edges) → n ≡ 0 → Early
-  unfolding early_number if◌then◌else◌
+  unfolding early_number if◌then◌otherwise◌
   early_passed n e z =
       by_bool (eqb p.n 0 || ltb 64 p.n)
       (λ a. let y : n ≡ 1 = rw a at e in absurd (omega arith))
@@ -126,20 +126,20 @@ ran_over s a l old new b r h e = by_rehearsal _ _ old new r (rehearsed_ran (plan
 -- 1, 2 and 5 in their order.
 module _ (n L k : ℕ) (t : Bool) (is-1 : t ≡ eqb n 0 || ltb 64 n) where
   pub early_1 : t ≡ true → 1 ≡ early_number n L k
-  unfolding early_number if◌then◌else◌
+  unfolding early_number if◌then◌otherwise◌
   early_1 a = rw (sym is-1 ∙ a)
 
   module _ (a : t ≡ false) (u : Bool) (is-2 : u ≡ eqb L 0) where
     pub early_2 : u ≡ true → 2 ≡ early_number n L k
-    unfolding early_number if◌then◌else◌
+    unfolding early_number if◌then◌otherwise◌
     early_2 b = rw (sym is-1 ∙ a, sym is-2 ∙ b)
 
     pub early_5 : u ≡ false → 512 < k → 5 ≡ early_number n L k
-    unfolding early_number if◌then◌else◌
+    unfolding early_number if◌then◌otherwise◌
     early_5 b l = rw (sym is-1 ∙ a, sym is-2 ∙ b, lt-ltb 512 k l)
 
     pub early_0 : u ≡ false → k ≤ 512 → 0 ≡ early_number n L k
-    unfolding early_number if◌then◌else◌
+    unfolding early_number if◌then◌otherwise◌
     early_0 b l = rw (sym is-1 ∙ a, sym is-2 ∙ b, le-ltb 512 k l)
 
 -- The test of `!t`.

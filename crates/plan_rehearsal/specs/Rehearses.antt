@@ -1,7 +1,7 @@
 -- What a plan file that 37 and 38 let pass is rehearsed to.
 use Rattle.std.specs.Prelude.{◌≡◌, Bool, true, false, ◌||◌, List, ℕ, ltb, eqb}
 use Rattle.bits.specs.Bytes.{stream}
-use Rattle.rules.specs.Base.{if◌then◌else◌}
+use Rattle.rules.specs.Base.{if◌then◌otherwise◌}
 use Rattle.plan_file.specs.File.{Answer.contents, decode}
 use Rattle.plan_file.specs.Checks.{PartsOf}
 use Rattle.plan_file.specs.declared.Parts.{Parts}
@@ -31,4 +31,4 @@ number_for false = 39
 
 -- 1, 2, and 5 for more than 512 edges; 0 where none of these.
 unfoldable pub early_number : ℕ → ℕ → ℕ → ℕ
-early_number n L edges = if eqb n 0 || ltb 64 n then 1 else if eqb L 0 then 2 else if ltb 512 edges then 5 else 0
+early_number n L edges = if eqb n 0 || ltb 64 n then 1 otherwise if eqb L 0 then 2 otherwise if ltb 512 edges then 5 otherwise 0

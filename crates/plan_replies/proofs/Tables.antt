@@ -10,7 +10,7 @@ use lib.Seq.{get_or-set_same, get_or-set_other, drop-cons}
 use borrow.Author.Tests.{eqb-true, eqb-false, eq-eqb, ne_eqb}
 use Rattle.bits.specs.Bits.{value_of}
 use Rattle.bits.proofs.Fields.{value_take}
-use Rattle.rules.specs.Base.{if◌then◌else◌}
+use Rattle.rules.specs.Base.{if◌then◌otherwise◌}
 use Rattle.rules.specs.State.{Message}
 use Rattle.rules.proofs.Tests.{by_bool}
 use Rattle.plan_file.specs.Plan.{Reply}
@@ -22,11 +22,11 @@ use Rattle.plan_replies.specs.Table.{reply_at, StandsAt, leads_to, Link, Table}
 
 -- The replies of a process from the reply k on.
 own_reply : (q : ℕ) (r : Reply) (rs : List Reply) → r.process ≡ q → replies_by q (r ∷ rs) ≡ r.messages ∷ replies_by q rs
-unfolding replies_by if◌then◌else◌
+unfolding replies_by if◌then◌otherwise◌
 own_reply q r rs e = rw (eq-eqb q r.process (sym e))
 
 other_reply : (q : ℕ) (r : Reply) (rs : List Reply) → (q ≡ r.process → ⊥) → replies_by q (r ∷ rs) ≡ replies_by q rs
-unfolding replies_by if◌then◌else◌
+unfolding replies_by if◌then◌otherwise◌
 other_reply q r rs e = rw (ne_eqb q r.process e)
 
 module _ (rs : List Reply) (k : ℕ) (l : k < length rs) where

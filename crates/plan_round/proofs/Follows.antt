@@ -6,7 +6,7 @@ use Prim.Native.Nat.{ℕ, ◌<◌}
 use native.Mathlib.Omega.{arith}
 use lib.Dec.{eqb}
 use borrow.Author.Tests.{ne_eqb}
-use Rattle.rules.specs.Base.{if◌then◌else◌, none, some, non_empty}
+use Rattle.rules.specs.Base.{if◌then◌otherwise◌, none, some, non_empty}
 use Rattle.rules.specs.State.{Event, State, Counters}
 use Rattle.rules.specs.Answers.{Batch, Advanced, Finished, Committed, Refused, Refusal, refusal_number, number}
 use Rattle.rules.specs.Rows.{Out, out}
@@ -43,7 +43,7 @@ module _ (p : Plan) (es : List Entry) (r : ℕ) where
   }
 
   batch_step : (bs : List Event) (g : ℕ) (t : State) (c : Counters) → non_empty bs ≡ true → t.batch ≡ bs → AfterStep p es r (out (Batch bs g) t c)
-  unfolding next after left if◌then◌else◌ is_hand_back in_hand is_batch events
+  unfolding next after left if◌then◌otherwise◌ is_hand_back in_hand is_batch events
   batch_step bs g t c b e = record {
     hands = λ _. (ap (λ (l : List Event). some (HandBack 0 (due (left p es) l))) (sym e), sym e);
     goes = λ f _ _. true_not_false (sym b ∙ ap non_empty (sym e) ∙ f);

@@ -7,7 +7,7 @@ use Prim.Native.Nat.{ℕ, zero, suc, ◌+◌, ◌≤◌, ◌<◌}
 use native.Mathlib.Omega.{arith}
 use lib.Dec.{leb, eqb}
 use borrow.Author.Tests.{leb-true, eqb-true, le-ltb, lt-ltb, eq-eqb, ne_eqb, not-false}
-use Rattle.rules.specs.Base.{if◌then◌else◌, up_from, up_to, count, rising}
+use Rattle.rules.specs.Base.{if◌then◌otherwise◌, up_from, up_to, count, rising}
 use Rattle.rules.proofs.Tests.{by_bool, and_left, and_right}
 use Rattle.rules.proofs.Lists.{All}
 use Rattle.types.proofs.Halves.{lt_or_ge}
@@ -41,19 +41,19 @@ spread_more keep f lo (suc k) =
 -- A row before all of them.
 module _ (keep : ℕ → Bool) (f : ℕ → ℕ) (p : ℕ) where
   place_above : (lo k : ℕ) → p < lo → place p (spread keep f lo k) ≡ record { source = p; count = 0 } ∷ spread keep f lo k
-  unfolding spread place if◌then◌else◌
+  unfolding spread place if◌then◌otherwise◌
   place_above lo zero h = refl
   place_above lo (suc k) h = by_bool (keep lo) (λ t. rw (t, lt-ltb p lo h)) (λ t. rw t (place_above (suc lo) k (omega arith)))
 
   joined_above : (lo k : ℕ) → p < lo → joined p (spread keep f lo k) ≡ record { source = p; count = 1 } ∷ spread keep f lo k
-  unfolding spread joined if◌then◌else◌
+  unfolding spread joined if◌then◌otherwise◌
   joined_above lo zero h = refl
   joined_above lo (suc k) h = by_bool (keep lo) (λ t. rw (t, ne_eqb p lo (λ e. omega arith))) (λ t. rw t (joined_above (suc lo) k (omega arith)))
 
 -- A row for p: it has one now, and the others stay.
 module _ (keep keep' : ℕ → Bool) (f : ℕ → ℕ) (p : ℕ) (in-it : keep' p ≡ true) (others : (q : ℕ) → (q ≡ p → ⊥) → keep q ≡ keep' q) (empty : keep p ≡ false → f p ≡ 0) where
   place_here : (k : ℕ) → place p (spread keep f p (suc k)) ≡ spread keep' f p (suc k)
-  unfolding spread place if◌then◌else◌
+  unfolding spread place if◌then◌otherwise◌
   place_here k =
       let same : spread keep f (suc p) k ≡ spread keep' f (suc p) k = spread_cong keep keep' f f (suc p) k (λ q a b. others q (λ x. omega arith)) (λ q a b. refl) in
       by_bool (keep p)
@@ -61,7 +61,7 @@ module _ (keep keep' : ℕ → Bool) (f : ℕ → ℕ) (p : ℕ) (in-it : keep' 
       (λ t. rw (t, in-it) (place_above keep f p (suc p) k (omega arith) ∙ rw (same, empty t)))
 
   place_past : (lo : ℕ) (rs : List TopologyRow) → lo < p → place p (row_if (keep lo) lo (f lo) ++ rs) ≡ row_if (keep lo) lo (f lo) ++ place p rs
-  unfolding place if◌then◌else◌
+  unfolding place if◌then◌otherwise◌
   place_past lo rs h = by_bool (keep lo) (λ t. rw (t, le-ltb p lo (omega arith), ne_eqb p lo (λ x. omega arith))) (λ t. rw t)
 
   place_in : (lo k : ℕ) → lo ≤ p → p < lo + k → place p (spread keep f lo k) ≡ spread keep' f lo k
@@ -78,7 +78,7 @@ module _ (keep keep' : ℕ → Bool) (f f' : ℕ → ℕ) (p : ℕ) (in-it : kee
     (below : (q : ℕ) → q < p → keep q ≡ false) (below' : (q : ℕ) → q < p → keep' q ≡ false)
     (above : (q : ℕ) → p < q → keep q ≡ keep' q) (counts : (q : ℕ) → p < q → f q ≡ f' q) where
   joined_here : (k : ℕ) → joined p (spread keep f p (suc k)) ≡ spread keep' f' p (suc k)
-  unfolding spread joined if◌then◌else◌
+  unfolding spread joined if◌then◌otherwise◌
   joined_here k =
       let same : spread keep f (suc p) k ≡ spread keep' f' (suc p) k = spread_cong keep keep' f f' (suc p) k (λ q a b. above q (omega arith)) (λ q a b. counts q (omega arith)) in
       by_bool (keep p)
@@ -110,7 +110,7 @@ no_edge q = refl
 
 -- No edge of a source that is less than the first, where sources never fall.
 none_below : (p : ℕ) (xs : List ℕ) → rising leb (p ∷ xs) ≡ true → (q : ℕ) → q < p → count (eqb q) xs ≡ 0
-unfolding rising count if◌then◌else◌
+unfolding rising count if◌then◌otherwise◌
 none_below p [] h q l = refl
 none_below p (x ∷ xs) h q l =
     let a : p ≤ x = leb-true p x (and_left (leb p x) _ h) in
@@ -122,11 +122,11 @@ rising_tail p [] h = refl
 rising_tail p (x ∷ xs) h = and_right (leb p x) _ h
 
 count_own : (p : ℕ) (xs : List ℕ) → count (eqb p) (p ∷ xs) ≡ suc (count (eqb p) xs)
-unfolding count if◌then◌else◌
+unfolding count if◌then◌otherwise◌
 count_own p xs = rw (eq-eqb p p refl) (omega arith)
 
 count_other : (q p : ℕ) (xs : List ℕ) → (q ≡ p → ⊥) → count (eqb q) (p ∷ xs) ≡ count (eqb q) xs
-unfolding count if◌then◌else◌
+unfolding count if◌then◌otherwise◌
 count_other q p xs h = rw (ne_eqb q p h) (omega arith)
 
 abbrev pub sources : List PlanEdge → List ℕ

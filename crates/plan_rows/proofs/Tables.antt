@@ -9,7 +9,7 @@ use lib.Dec.{eqb}
 use lib.ListN.{length, take, get_or, set, length-set, length-append, get_or-replicate, replicate}
 use lib.Seq.{take-suc, take-suc-set, take_all, length-take-le, get_or-set_same, get_or-set_other}
 use borrow.Author.Tests.{eqb-true, eqb-false, eq-eqb, ne_eqb, lt-ltb, le-ltb}
-use Rattle.rules.specs.Base.{if◌then◌else◌, count}
+use Rattle.rules.specs.Base.{if◌then◌otherwise◌, count}
 use Rattle.rules.proofs.Tests.{by_bool}
 use Rattle.rules.proofs.Lists.{All}
 use Rattle.plan_file.specs.Plan.{Plan}
@@ -22,13 +22,13 @@ pub tallies_none : Tallies [] (replicate 64 0)
 unfolding count
 tallies_none = record { size = refl; counts = λ q h. get_or-replicate 64 q 0 0 h }
 
-count_push : (q x : ℕ) (xs : List ℕ) → count (eqb q) (xs ++ (x ∷ [])) ≡ count (eqb q) xs + (if eqb q x then 1 else 0)
+count_push : (q x : ℕ) (xs : List ℕ) → count (eqb q) (xs ++ (x ∷ [])) ≡ count (eqb q) xs + (if eqb q x then 1 otherwise 0)
 unfolding count
 count_push q x [] = omega arith
 count_push q x (y ∷ xs) = omega (arith, count_push q x xs)
 
 count_few : (q : ℕ) (xs : List ℕ) → count (eqb q) xs ≤ length xs
-unfolding count if◌then◌else◌
+unfolding count if◌then◌otherwise◌
 count_few q [] = omega arith
 count_few q (x ∷ xs) = by_bool (eqb q x) (λ t. rw t (omega (arith, count_few q xs))) (λ t. rw t (omega (arith, count_few q xs)))
 
@@ -43,7 +43,7 @@ module _ (from table : List ℕ) (i : ℕ) (h : i < length from) (t : Tallies (t
   pub tally_more : (q k : ℕ) → q < 64 → q ≡ get_or from i 0 → k ≡ get_or table q 0 → Tallies (take (i + 1) from) (set table q (k + 1))
   tally_more q k l e c = record { size = length-set table q (k + 1) ∙ t.size; counts = by-source }
     where
-      more : (x : ℕ) → count (eqb x) (take (i + 1) from) ≡ count (eqb x) (take i from) + (if eqb x (get_or from i 0) then 1 else 0)
+      more : (x : ℕ) → count (eqb x) (take (i + 1) from) ≡ count (eqb x) (take i from) + (if eqb x (get_or from i 0) then 1 otherwise 0)
       more x = ap (count (eqb x)) taken ∙ count_push x (get_or from i 0) (take i from)
 
       by-source : (x : ℕ) → x < 64 → get_or (set table q (k + 1)) x 0 ≡ count (eqb x) (take (i + 1) from)
@@ -55,10 +55,10 @@ module _ (from table : List ℕ) (i : ℕ) (h : i < length from) (t : Tallies (t
           (λ b. get_or-set_other table q x (k + 1) 0 (eqb-false x q b) ∙ t.counts x m ∙ sym (more x ∙ other (λ f. eqb-false x q b (f ∙ sym e))))
         where
           own : x ≡ q → k + 1 ≡ count (eqb q) (take (i + 1) from)
-          own f = unfold if◌then◌else◌ in (rw (more q, eq-eqb q (get_or from i 0) e) (omega (arith, t.counts q l, c)))
+          own f = unfold if◌then◌otherwise◌ in (rw (more q, eq-eqb q (get_or from i 0) e) (omega (arith, t.counts q l, c)))
 
-          other : (x ≡ get_or from i 0 → ⊥) → count (eqb x) (take i from) + (if eqb x (get_or from i 0) then 1 else 0) ≡ count (eqb x) (take i from)
-          other f = unfold if◌then◌else◌ in (rw (ne_eqb x (get_or from i 0) f) (omega arith))
+          other : (x ≡ get_or from i 0 → ⊥) → count (eqb x) (take i from) + (if eqb x (get_or from i 0) then 1 otherwise 0) ≡ count (eqb x) (take i from)
+          other f = unfold if◌then◌otherwise◌ in (rw (ne_eqb x (get_or from i 0) f) (omega arith))
 
 pub tally_end : (from table : List ℕ) (i : ℕ) → length from ≤ i → Tallies (take i from) table → Tallies from table
 tally_end from table i h t = subst (λ (xs : List ℕ). Tallies xs table) (take_all i from h) t

@@ -7,7 +7,7 @@ use native.Mathlib.Omega.{arith}
 use lib.Dec.{ltb}
 use lib.ListN.{take, drop}
 use borrow.Author.Tests.{le-ltb}
-use Rattle.rules.specs.Base.{if◌then◌else◌, up_to, any, member, some}
+use Rattle.rules.specs.Base.{if◌then◌otherwise◌, up_to, any, member, some}
 use Rattle.rules.specs.State.{Counters, zeros}
 use Rattle.rules.specs.Answers.{Accepted, refusal_number, number}
 use Rattle.rules.specs.Rows.{Row, unless}
@@ -25,13 +25,13 @@ no_four a b h = rw (le-ltb 0 a (omega arith), le-ltb 0 b (omega arith))
 
 module _ (p : Plan) (c : Counters) where
   table : build (setup_of p) c ≡ unless (plan_rows p) (turned_away c) (record { answer = Accepted; made = some (built (setup_of p)); counters = zeros })
-  unfolding build setup_of unless if◌then◌else◌
+  unfolding build setup_of unless if◌then◌otherwise◌
   table =
       let i = sets p in
       rw (i.three, no_four (missing (up_to p.n) (up_to p.n)) (unexpected p.n (up_to p.n)) i.four, i.five, i.six)
 
   pub builds : Builds p c
-  unfolding unless if◌then◌else◌
+  unfolding unless if◌then◌otherwise◌
   builds = record { table = table; one = λ a. table ∙ rw a; two = λ a b. table ∙ rw (a, b); five = λ a b d. table ∙ rw (a, b, d) }
 
 -- Which numbers build answers with.

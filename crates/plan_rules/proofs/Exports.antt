@@ -6,7 +6,7 @@ use Prim.Native.Nat.{ℕ, ◌≤◌, ◌<◌}
 use native.Mathlib.Omega.{arith}
 use lib.ListN.{length}
 use borrow.Author.Tests.{le-leb, lt-leb}
-use Rattle.rules.specs.Base.{if◌then◌else◌, some}
+use Rattle.rules.specs.Base.{if◌then◌otherwise◌, some}
 use Rattle.rules.specs.State.{Counters, zeros}
 use Rattle.rules.specs.Answers.{Refusal, refusal_number, Accepted, number}
 use Rattle.rules.specs.Rows.{Row}
@@ -36,16 +36,16 @@ module _ (p : Plan) where
   unfolding rehearsed once_built number
   rehearsed_refused r e = ap (λ (b : BuildOut). once_built p (number b.answer) b.made) e
 
-  rehearsed_made : (build (setup_of p) zeros).answer ≡ Accepted → rehearsed p ≡ (if too_long p then Listing.refused 39 else listed (listing (ran p)))
+  rehearsed_made : (build (setup_of p) zeros).answer ≡ Accepted → rehearsed p ≡ (if too_long p then Listing.refused 39 otherwise listed (listing (ran p)))
   unfolding rehearsed once_built
   rehearsed_made e = ap (once_built p (number (build (setup_of p) zeros).answer)) (accepted_made (setup_of p) zeros e)
 
   pub rehearsed_long : (build (setup_of p) zeros).answer ≡ Accepted → too_long p ≡ true → rehearsed p ≡ Listing.refused 39
-  unfolding if◌then◌else◌
+  unfolding if◌then◌otherwise◌
   rehearsed_long e t = rehearsed_made e ∙ rw t
 
   pub rehearsed_ran : (build (setup_of p) zeros).answer ≡ Accepted → too_long p ≡ false → rehearsed p ≡ listed (listing (ran p))
-  unfolding if◌then◌else◌
+  unfolding if◌then◌otherwise◌
   rehearsed_ran e t = rehearsed_made e ∙ rw t
 
 -- What is exported.
@@ -64,9 +64,9 @@ module _ (file lent : List ℕ) where
     exported_refused k e = exported_read ∙ ap (λ (r : Rehearsal). handed_over r lent) e
 
     pub exported_written : (l : List ℕ) → rehearsed p ≡ listed l → length l ≤ length lent → exported file lent ≡ written l lent
-    unfolding handed_over if◌then◌else◌
+    unfolding handed_over if◌then◌otherwise◌
     exported_written l e h = exported_read ∙ ap (λ (r : Rehearsal). handed_over r lent) e ∙ rw (le-leb (length l) (length lent) h)
 
     pub exported_short : (l : List ℕ) → rehearsed p ≡ listed l → length lent < length l → exported file lent ≡ cleared 39 lent
-    unfolding handed_over if◌then◌else◌
+    unfolding handed_over if◌then◌otherwise◌
     exported_short l e h = exported_read ∙ ap (λ (r : Rehearsal). handed_over r lent) e ∙ rw (lt-leb (length l) (length lent) h)

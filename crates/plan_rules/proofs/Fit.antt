@@ -5,7 +5,7 @@ use mathlib.Core.List.{List, [], ◌∷◌}
 use Prim.Native.Nat.{ℕ, suc, ◌+◌, ◌*◌, ◌≤◌, ◌<◌}
 use native.Mathlib.Omega.{arith}
 use lib.ListN.{length}
-use Rattle.rules.specs.Base.{if◌then◌else◌, count}
+use Rattle.rules.specs.Base.{if◌then◌otherwise◌, count}
 use Rattle.rules.specs.Answers.{Answer, Accepted, Batch, Advanced, Finished, Committed, Read, Planned, Refused}
 use Rattle.rules.specs.History.{Entry, is_initial, horizon, emissions, is_advanced, begins, adds, commits, R, H, initials, in_hand, emitted, rounds}
 use Rattle.rules.proofs.Counts.{counts_off, counts_on, unhandled, handles, no_turn, commit_turn, advance_turn, no_initial, one_initial}
@@ -33,14 +33,14 @@ extra_of (e ∷ es) = extra e.answer
 -- 0 as long as initial events are added.
 unfoldable pub begun : List Entry → ℕ
 begun [] = 0
-begun (e ∷ es) = if is_initial e.call then 0 else 1
+begun (e ∷ es) = if is_initial e.call then 0 otherwise 1
 
 pub begun_most : (es : List Entry) → begun es ≤ 1
-unfolding begun if◌then◌else◌
+unfolding begun if◌then◌otherwise◌
 begun_most [] = omega arith
 begun_most (e ∷ es) = go (is_initial e.call)
   where
-    go : (t : Bool) → (if t then 0 else 1) ≤ 1
+    go : (t : Bool) → (if t then 0 otherwise 1) ≤ 1
     go true = omega arith
     go false = omega arith
 
@@ -65,11 +65,11 @@ unfolding R
 r_more e es b = counts_on begins e es b
 
 h_same : (e : Entry) (es : List Entry) → begins e ≡ false → H (e ∷ es) ≡ H es
-unfolding H if◌then◌else◌
+unfolding H if◌then◌otherwise◌
 h_same e es b = rw b
 
 h_new : (e : Entry) (es : List Entry) → begins e ≡ true → H (e ∷ es) ≡ suc (horizon e.call)
-unfolding H if◌then◌else◌
+unfolding H if◌then◌otherwise◌
 h_new e es b = rw b
 
 module _ (p : Plan) (e : Entry) (es : List Entry) (i : Fit p es) (k : extra_of (e ∷ es) ≤ 2) where

@@ -8,7 +8,7 @@ use lib.Dec.{eqb}
 use lib.ListN.{length, get_or, drop}
 use lib.Seq.{get_or-drop, drop-drop}
 use borrow.Author.Tests.{ltb-true, eqb-true, eqb-false, ne_eqb}
-use Rattle.rules.specs.Base.{if◌then◌else◌, rising, some}
+use Rattle.rules.specs.Base.{if◌then◌otherwise◌, rising, some}
 use Rattle.rules.specs.State.{Message, Event}
 use Rattle.rules.specs.Answers.{Answer, Accepted, Batch, Advanced, Finished, Committed, Read, Planned, Refused}
 use Rattle.rules.specs.Foreign.{by_process}
@@ -23,27 +23,27 @@ use Rattle.plan_rules.specs.Host.{reply_of, without, spend, due, left, or_begin,
 use Rattle.plan_rules.specs.Laws.{replies_by, handled_by, answer_to, answers_to}
 
 pub first_is : (q : ℕ) (rs : List Reply) → reply_of q rs ≡ get_or (replies_by q rs) 0 []
-unfolding reply_of replies_by if◌then◌else◌
+unfolding reply_of replies_by if◌then◌otherwise◌
 first_is q [] = refl
 first_is q (r ∷ rs) = go (eqb q r.process) (first_is q rs)
   where
-    go : (t : Bool) → reply_of q rs ≡ get_or (replies_by q rs) 0 [] → (if t then r.messages else reply_of q rs) ≡ get_or (if t then r.messages ∷ replies_by q rs else replies_by q rs) 0 []
+    go : (t : Bool) → reply_of q rs ≡ get_or (replies_by q rs) 0 [] → (if t then r.messages otherwise reply_of q rs) ≡ get_or (if t then r.messages ∷ replies_by q rs otherwise replies_by q rs) 0 []
     go true h = refl
     go false h = h
 
 -- One reply less, of the process itself and of another.
 pub without_own : (q : ℕ) (rs : List Reply) → replies_by q (without q rs) ≡ drop 1 (replies_by q rs)
-unfolding without replies_by if◌then◌else◌
+unfolding without replies_by if◌then◌otherwise◌
 without_own q [] = refl
 without_own q (r ∷ rs) = by_bool (eqb q r.process) (λ t. rw t) (λ t. rw (t, t) (without_own q rs))
 
 pub without_other : (q d : ℕ) (rs : List Reply) → eqb d q ≡ false → replies_by q (without d rs) ≡ replies_by q rs
-unfolding without replies_by if◌then◌else◌
+unfolding without replies_by if◌then◌otherwise◌
 without_other q d [] n = refl
 without_other q d (r ∷ rs) n =
     by_bool (eqb d r.process)
     (λ t. let a = eqb-true d r.process t in let b = eqb-false d q n in rw (t, ne_eqb q r.process (λ e. b (a ∙ sym e))))
-    (λ t. rw t (ap (λ l. if eqb q r.process then r.messages ∷ l else l) (without_other q d rs n)))
+    (λ t. rw t (ap (λ l. if eqb q r.process then r.messages ∷ l otherwise l) (without_other q d rs n)))
 
 -- Of the event's own process: one is gone already.
 one_gone : (q d k : ℕ) (rs : List Reply) → d ≡ q → drop k (replies_by q (without d rs)) ≡ drop (suc k) (replies_by q rs)
@@ -52,7 +52,7 @@ one_gone q d k rs a =
     ap (drop k) (rw a (without_own q rs)) ∙ drop-drop k 1 (replies_by q rs) ∙ ap (λ (j : ℕ). drop j (replies_by q rs)) z
 
 pub spent : (q : ℕ) (bs : List Event) (rs : List Reply) → replies_by q (spend bs rs) ≡ drop (length (events_at q bs)) (replies_by q rs)
-unfolding spend events_at if◌then◌else◌
+unfolding spend events_at if◌then◌otherwise◌
 spent q [] rs = refl
 spent q (e ∷ bs) rs =
     by_bool (eqb e.destination q)
@@ -60,7 +60,7 @@ spent q (e ∷ bs) rs =
     (λ t. rw t (spent q bs (without e.destination rs) ∙ ap (drop (length (events_at q bs))) (without_other q e.destination rs t)))
 
 pub left_drops : (p : Plan) (q : ℕ) (es : List Entry) → replies_by q (left p es) ≡ drop (handled_by q es) (replies_by q p.replies)
-unfolding left handled_by if◌then◌else◌
+unfolding left handled_by if◌then◌otherwise◌
 left_drops p q [] = refl
 left_drops p q (e ∷ es) =
     by_bool (commits e)
@@ -130,10 +130,10 @@ no_opening p [] mask xs h = let z : ◌≡◌ {A = ℕ} 0 1 = cc in absurd (omeg
 no_opening p (m ∷ ms) mask xs h = let z : ◌≡◌ {A = ℕ} 0 1 = cc in absurd (omega arith)
 
 backed_after : (p : Plan) (k : Call) (a : Answer) (r : ℕ) (es : List Entry) (mask : ℕ) (xs : List Emission) → after p (entry_of k a r ∷ es) k a ≡ some (HandBack mask xs) → Backed p (entry_of k a r ∷ es) mask xs
-unfolding after opening if◌then◌else◌
+unfolding after opening if◌then◌otherwise◌
 backed_after p k Accepted r es mask xs h = go (is_initial k) h
   where
-    go : (t : Bool) → some (if t then or_begin p (drop (initials (entry_of k Accepted r ∷ es)) p.initial) else Step) ≡ some (HandBack mask xs) → Backed p (entry_of k Accepted r ∷ es) mask xs
+    go : (t : Bool) → some (if t then or_begin p (drop (initials (entry_of k Accepted r ∷ es)) p.initial) otherwise Step) ≡ some (HandBack mask xs) → Backed p (entry_of k Accepted r ∷ es) mask xs
     go true h = no_opening p _ mask xs h
     go false h = let z : ◌≡◌ {A = ℕ} 0 1 = cc in absurd (omega arith)
 backed_after p k (Batch bs g) r es mask xs h = record { mask = cc; reply = let z : xs ≡ due (left p (entry_of k (Batch bs g) r ∷ es)) bs = cc in rw (hand_batch k bs g r es) z }

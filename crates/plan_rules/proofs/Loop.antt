@@ -9,7 +9,7 @@ use lib.Dec.{leb}
 use lib.ListN.{length, length-append, get_or, drop, drop_of_length-le}
 use lib.Seq.{drop-cons}
 use borrow.Author.Tests.{leb-true, leb-false, ne_eqb}
-use Rattle.rules.specs.Base.{if◌then◌else◌, Maybe, none, some}
+use Rattle.rules.specs.Base.{if◌then◌otherwise◌, Maybe, none, some}
 use Rattle.rules.specs.State.{Message, Event, Counters}
 use Rattle.rules.specs.Answers.{Accepted, Batch, Advanced, Finished, Committed, Refused, Refusal, refusal_number, number}
 use Rattle.rules.specs.Build.{build}
@@ -114,7 +114,7 @@ module _ (p : Plan) where
 
   module _ (e : Entry) (es : List Entry) where
     pub next_added : (m : Message) → e.call ≡ AddInitial m → e.answer ≡ Accepted → next p (e ∷ es) ≡ some (opening p (e ∷ es))
-    unfolding next after is_initial if◌then◌else◌
+    unfolding next after is_initial if◌then◌otherwise◌
     next_added m c a = rw (a, c)
 
     pub initials_added : (m : Message) → e.call ≡ AddInitial m → e.answer ≡ Accepted → initials (e ∷ es) ≡ initials es + 1
@@ -122,7 +122,7 @@ module _ (p : Plan) where
     initials_added m c a = one_initial e es (rw (c, a))
 
     pub next_begun : (h b : ℕ) → e.call ≡ Begin h b → e.answer ≡ Accepted → next p (e ∷ es) ≡ some Step
-    unfolding next after is_initial if◌then◌else◌
+    unfolding next after is_initial if◌then◌otherwise◌
     next_begun h b c a = rw (a, c)
 
     pub next_batch : (bs : List Event) (g : ℕ) → e.call ≡ Step → e.answer ≡ Batch bs g → next p (e ∷ es) ≡ some (HandBack 0 (due (left p es) bs))
@@ -153,19 +153,19 @@ module _ (e : Entry) (es : List Entry) where
   hand_of_batch bs g a = rw a (hand_batch e.call bs g e.raises es)
 
   pub lines_same : commits e ≡ false → handled_lines (e ∷ es) ≡ handled_lines es
-  unfolding handled_lines if◌then◌else◌
+  unfolding handled_lines if◌then◌otherwise◌
   lines_same c = rw c (append-nil (handled_lines es))
 
   pub lines_more : commits e ≡ true → handled_lines (e ∷ es) ≡ handled_lines es ++ event_lines (in_hand es)
-  unfolding handled_lines if◌then◌else◌
+  unfolding handled_lines if◌then◌otherwise◌
   lines_more c = rw c
 
   pub handled_same : (q : ℕ) → commits e ≡ false → handled_by q (e ∷ es) ≡ handled_by q es
-  unfolding handled_by if◌then◌else◌
+  unfolding handled_by if◌then◌otherwise◌
   handled_same q c = rw c (omega arith)
 
   pub handled_more : (q : ℕ) → commits e ≡ true → handled_by q (e ∷ es) ≡ length (events_at q (in_hand es)) + handled_by q es
-  unfolding handled_by if◌then◌else◌
+  unfolding handled_by if◌then◌otherwise◌
   handled_more q c = rw c
 
 -- A hand back e behind the batch d.

@@ -7,7 +7,7 @@ use native.Mathlib.Omega.{arith}
 use lib.Dec.{eqb}
 use lib.ListN.{length, drop}
 use borrow.Author.Tests.{eqb-true, eqb-false}
-use Rattle.rules.specs.Base.{if◌then◌else◌, some, non_empty}
+use Rattle.rules.specs.Base.{if◌then◌otherwise◌, some, non_empty}
 use Rattle.rules.specs.State.{Message, Event, unset, State, Counters}
 use Rattle.rules.specs.Answers.{Answer, Accepted, Batch, Advanced, Finished, Committed, Read, Planned, Refused, Refusal, refusal_number, number}
 use Rattle.rules.specs.Rows.{Out, out, refuse}
@@ -91,70 +91,70 @@ Goes p y k o = Good p (append_call y k o)
 module _ (p : Plan) (y : History) (i : Good p y) where
   -- A refusal ends the run: of an initial event, of another call that is no hand back, and of a hand back that did not commit.
   initial_refused : (m : Message) (r : Refusal) → begun y.entries ≡ 0 → extra_of y.entries ≡ 0 → Goes p y (AddInitial m) (refuse y.now y.counters r)
-  unfolding Goes extra_of extra begun if◌then◌else◌ is_initial is_begin is_hand_back refused is_committed is_advanced number
+  unfolding Goes extra_of extra begun if◌then◌otherwise◌ is_initial is_begin is_hand_back refused is_committed is_advanced number
   initial_refused m r b z = record {
     fit = fit_quiet p (entry y.now (AddInitial m) (refuse y.now y.counters r)) y.entries i.fit (omega arith) (record { no_run = refl; no_event = refl; no_commit = refl; no_advance = refl }) (omega (arith, i.fit.once)) (omega arith);
     phase = phase_over p _ _ refl;
   }
 
   initial_accepted : (m : Message) (t : State) → begun y.entries ≡ 0 → extra_of y.entries ≡ 0 → initials y.entries < length p.initial → Waiting t → Goes p y (AddInitial m) (out Accepted t y.counters)
-  unfolding Goes next after extra_of extra begun if◌then◌else◌ is_initial is_begin is_hand_back refused is_committed is_advanced number
+  unfolding Goes next after extra_of extra begun if◌then◌otherwise◌ is_initial is_begin is_hand_back refused is_committed is_advanced number
   initial_accepted m t b z l h = record {
     fit = fit_add p (entry y.now (AddInitial m) (out Accepted t y.counters)) y.entries i.fit (omega arith) refl refl refl refl l (omega (arith, i.fit.once)) z;
     phase = phase_adding p _ _ refl refl refl h;
   }
 
   begin_refused : (h b : ℕ) (r : Refusal) → extra_of y.entries ≡ 0 → Goes p y (Begin h b) (refuse y.now y.counters r)
-  unfolding Goes extra_of extra begun if◌then◌else◌ is_initial is_begin is_hand_back refused is_committed is_advanced number
+  unfolding Goes extra_of extra begun if◌then◌otherwise◌ is_initial is_begin is_hand_back refused is_committed is_advanced number
   begin_refused h b r z = record {
     fit = fit_quiet p (entry y.now (Begin h b) (refuse y.now y.counters r)) y.entries i.fit (omega arith) (record { no_run = refl; no_event = refl; no_commit = refl; no_advance = refl }) (omega (arith, i.fit.once, begun_most y.entries)) (omega arith);
     phase = phase_over p _ _ refl;
   }
 
   begin_accepted : (b : ℕ) (t : State) → begun y.entries ≡ 0 → extra_of y.entries ≡ 0 → Going t → Goes p y (Begin p.horizon b) (out Accepted t y.counters)
-  unfolding Goes extra_of extra begun if◌then◌else◌ is_initial is_begin is_hand_back refused is_committed is_advanced number horizon
+  unfolding Goes extra_of extra begun if◌then◌otherwise◌ is_initial is_begin is_hand_back refused is_committed is_advanced number horizon
   begin_accepted b t o z h = record {
     fit = fit_begin p (entry y.now (Begin p.horizon b) (out Accepted t y.counters)) y.entries i.fit (omega arith) refl refl refl refl refl (omega (arith, i.fit.once)) refl z;
     phase = phase_stepping p _ _ refl refl h;
   }
 
   step_refused : (r : Refusal) (t : State) → extra_of y.entries ≡ 0 → Goes p y Step (out (Refused r) t y.counters)
-  unfolding Goes extra_of extra begun if◌then◌else◌ is_initial is_begin is_hand_back refused is_committed is_advanced number
+  unfolding Goes extra_of extra begun if◌then◌otherwise◌ is_initial is_begin is_hand_back refused is_committed is_advanced number
   step_refused r t z = record {
     fit = fit_quiet p (entry y.now Step (out (Refused r) t y.counters)) y.entries i.fit (omega arith) (record { no_run = refl; no_event = refl; no_commit = refl; no_advance = refl }) (omega (arith, i.fit.once, begun_most y.entries)) (omega arith);
     phase = phase_over p _ _ refl;
   }
 
   step_finished : (g : ℕ) (t : State) → extra_of y.entries ≡ 0 → Goes p y Step (out (Finished g) t y.counters)
-  unfolding Goes extra_of extra begun if◌then◌else◌ is_initial is_begin is_hand_back refused is_committed is_advanced number
+  unfolding Goes extra_of extra begun if◌then◌otherwise◌ is_initial is_begin is_hand_back refused is_committed is_advanced number
   step_finished g t z = record {
     fit = fit_quiet p (entry y.now Step (out (Finished g) t y.counters)) y.entries i.fit (omega arith) (record { no_run = refl; no_event = refl; no_commit = refl; no_advance = refl }) (omega (arith, i.fit.once, begun_most y.entries)) (omega arith);
     phase = phase_over p _ _ refl;
   }
 
   step_batch : (bs : List Event) (g : ℕ) (t : State) → extra_of y.entries ≡ 0 → Holding t → Goes p y Step (out (Batch bs g) t y.counters)
-  unfolding Goes extra_of extra begun if◌then◌else◌ is_initial is_begin is_hand_back refused is_committed is_advanced number
+  unfolding Goes extra_of extra begun if◌then◌otherwise◌ is_initial is_begin is_hand_back refused is_committed is_advanced number
   step_batch bs g t z h = record {
     fit = fit_quiet p (entry y.now Step (out (Batch bs g) t y.counters)) y.entries i.fit (omega arith) (record { no_run = refl; no_event = refl; no_commit = refl; no_advance = refl }) (omega (arith, i.fit.once, begun_most y.entries)) (omega arith);
     phase = phase_handing p _ _ refl h;
   }
 
   step_rose : (g : ℕ) (t : State) (c : Counters) → extra_of y.entries ≡ 0 → Going t → Goes p y Step (out (Advanced g) t c)
-  unfolding Goes extra_of extra begun if◌then◌else◌ is_initial is_begin is_hand_back refused is_committed is_advanced number
+  unfolding Goes extra_of extra begun if◌then◌otherwise◌ is_initial is_begin is_hand_back refused is_committed is_advanced number
   step_rose g t c z h = record {
     fit = fit_advance p (entry y.now Step (out (Advanced g) t c)) y.entries i.fit (omega arith) refl refl refl refl (omega (arith, i.fit.once, begun_most y.entries)) z;
     phase = phase_stepping p _ _ refl refl h;
   }
 
   back_refused : (xs : List Emission) (r : Refusal) (t : State) → eqb (refusal_number r) 24 ≡ false → extra_of y.entries ≡ 1 → Goes p y (HandBack 0 xs) (out (Refused r) t y.counters)
-  unfolding Goes extra_of extra begun if◌then◌else◌ is_initial is_begin is_hand_back refused is_committed is_advanced number
+  unfolding Goes extra_of extra begun if◌then◌otherwise◌ is_initial is_begin is_hand_back refused is_committed is_advanced number
   back_refused xs r t a z = record {
     fit = fit_quiet p (entry y.now (HandBack 0 xs) (out (Refused r) t y.counters)) y.entries i.fit (omega arith) (record { no_run = refl; no_event = refl; no_commit = a; no_advance = refl }) (omega (arith, i.fit.once, begun_most y.entries)) (omega arith);
     phase = phase_over p _ _ refl;
   }
 
   back_done : (xs : List Emission) (a : Answer) (t : State) (c : Counters) → commits (entry y.now (HandBack 0 xs) (out a t c)) ≡ true → is_advanced a ≡ false → extra a ≤ 2 → Phase p (entry y.now (HandBack 0 xs) (out a t c) ∷ y.entries) t → xs ≡ due (left p y.entries) (in_hand y.entries) → extra_of y.entries ≡ 1 → Goes p y (HandBack 0 xs) (out a t c)
-  unfolding Goes extra_of begun if◌then◌else◌ is_initial is_begin emissions
+  unfolding Goes extra_of begun if◌then◌otherwise◌ is_initial is_begin emissions
   back_done xs a t c k v n h d z = record {
     fit = fit_commit p (entry y.now (HandBack 0 xs) (out a t c)) y.entries i.fit n k v refl refl (omega (arith, i.fit.once, begun_most y.entries)) d z;
     phase = h;
@@ -190,7 +190,7 @@ module _ (p : Plan) (y : History) (i : Good p y) where
   })
 
   goes_back : (xs : List Emission) → xs ≡ due (left p y.entries) (in_hand y.entries) → extra_of y.entries ≡ 1 → Goes p y (HandBack 0 xs) (rule y.now y.counters (HandBack 0 xs))
-  unfolding rule refreshed refusal_number is_hand_back is_committed is_advanced number extra extra_of begun if◌then◌else◌ is_initial
+  unfolding rule refreshed refusal_number is_hand_back is_committed is_advanced number extra extra_of begun if◌then◌otherwise◌ is_initial
   goes_back xs d z = by_back y.now y.counters 0 xs (Goes p y (HandBack 0 xs)) (record {
     foreign = λ _. back_refused xs _ _ refl z;
     poisoned = λ _. back_refused xs _ _ refl z;
@@ -214,16 +214,16 @@ abbrev history_of : List Entry → State → Counters → History
 history_of es s c = record { entries = es; now = s; counters = c }
 
 begun_not : (k : Call) (a : Answer) (r : ℕ) (es : List Entry) → is_initial k ≡ true → begun (entry_of k a r ∷ es) ≡ 0
-unfolding begun if◌then◌else◌
+unfolding begun if◌then◌otherwise◌
 begun_not k a r es e = rw e
 
 module _ (p : Plan) where
   -- By the last answer.
   goes_after : (k : Call) (a : Answer) (r : ℕ) (es : List Entry) (s : State) (c : Counters) → let y = history_of (entry_of k a r ∷ es) s c in Good p y → Good p (carried y (after p (entry_of k a r ∷ es) k a))
-  unfolding after carried Goes extra_of extra if◌then◌else◌
+  unfolding after carried Goes extra_of extra if◌then◌otherwise◌
   goes_after k Accepted r es s c i = go (is_initial k) refl
     where
-      go : (t : Bool) → is_initial k ≡ t → let y = history_of (entry_of k Accepted r ∷ es) s c in Good p (carried y (some (if t then opening p y.entries else Step)))
+      go : (t : Bool) → is_initial k ≡ t → let y = history_of (entry_of k Accepted r ∷ es) s c in Good p (carried y (some (if t then opening p y.entries otherwise Step)))
       go true e = goes_opening p (history_of (entry_of k Accepted r ∷ es) s c) i (begun_not k Accepted r es e) refl
       go false e = goes_step p (history_of (entry_of k Accepted r ∷ es) s c) i refl
   goes_after k (Batch bs g) r es s c i = goes_back p (history_of (entry_of k (Batch bs g) r ∷ es) s c) i _ (ap (due (left p (entry_of k (Batch bs g) r ∷ es))) (sym (hand_batch k bs g r es))) refl

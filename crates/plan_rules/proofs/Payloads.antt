@@ -6,7 +6,7 @@ use Prim.Native.Nat.{ℕ, ◌+◌, ◌≤◌}
 use lib.Dec.{leb, ltb}
 use lib.ListN.{length}
 use borrow.Author.Tests.{ltb-false}
-use Rattle.rules.specs.Base.{if◌then◌else◌, any, any_of, non_empty, up_to}
+use Rattle.rules.specs.Base.{if◌then◌otherwise◌, any, any_of, non_empty, up_to}
 use Rattle.rules.specs.State.{Message, State, Counters, max_count, max_pending, max_payload, max_processes}
 use Rattle.rules.specs.Answers
 use Rattle.rules.specs.Answers.{Refusal}
@@ -21,7 +21,7 @@ use Rattle.plan_rules.specs.Laws.{LongPayloads}
 
 -- A row that decides, whatever would follow.
 decides : {A : Type 0} (rs ts : List Row) (r : Row) (f : Refusal → A) (x y : A) → r.test ≡ true → unless (rs ++ (r ∷ ts)) f x ≡ unless (rs ++ (r ∷ ts)) f y
-unfolding unless if◌then◌else◌
+unfolding unless if◌then◌otherwise◌
 decides [] ts r f x y h = rw h
 decides (q ∷ rs) ts r f x y h = rw (decides rs ts r f x y h)
 

@@ -7,7 +7,7 @@ use native.Mathlib.Omega.{arith}
 use lib.Dec.{eqb}
 use lib.ListN.{drop}
 use borrow.Author.Tests.{eqb-true, eqb-false}
-use Rattle.rules.specs.Base.{if◌then◌else◌, Maybe, none, some}
+use Rattle.rules.specs.Base.{if◌then◌otherwise◌, Maybe, none, some}
 use Rattle.rules.specs.State.{Message}
 use Rattle.rules.specs.Answers.{Answer, Accepted, Batch, Advanced, Finished, Committed, Read, Planned, Refused}
 use Rattle.rules.specs.Calls.{Call, AddInitial, Begin, Step, HandBack}
@@ -38,10 +38,10 @@ kind_opening p es [] b z = (b, z)
 kind_opening p es (m ∷ ms) b z = (b, z)
 
 kind_after : (p : Plan) (k : Call) (a : Answer) (r : ℕ) (es : List Entry) → Kind (entry_of k a r ∷ es) (after p (entry_of k a r ∷ es) k a)
-unfolding after opening extra_of extra begun if◌then◌else◌
+unfolding after opening extra_of extra begun if◌then◌otherwise◌
 kind_after p k Accepted r es = go (is_initial k) refl
   where
-    go : (t : Bool) → is_initial k ≡ t → Kind (entry_of k Accepted r ∷ es) (some (if t then or_begin p (drop (initials (entry_of k Accepted r ∷ es)) p.initial) else Step))
+    go : (t : Bool) → is_initial k ≡ t → Kind (entry_of k Accepted r ∷ es) (some (if t then or_begin p (drop (initials (entry_of k Accepted r ∷ es)) p.initial) otherwise Step))
     go true e = kind_opening p (entry_of k Accepted r ∷ es) _ (rw e) refl
     go false e = refl
 kind_after p k (Batch bs g) r es = refl

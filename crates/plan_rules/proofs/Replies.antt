@@ -6,7 +6,7 @@ use Prim.Native.Nat.{ℕ, ◌+◌}
 use native.Mathlib.Omega.{arith}
 use lib.Dec.{eqb}
 use lib.ListN.{length, length-append, length-map}
-use Rattle.rules.specs.Base.{if◌then◌else◌}
+use Rattle.rules.specs.Base.{if◌then◌otherwise◌}
 use Rattle.rules.specs.State.{Event}
 use Rattle.rules.specs.History.{Entry, in_hand, commits}
 use Rattle.plan_file.specs.Plan.{Reply, Plan}
@@ -14,11 +14,11 @@ use Rattle.plan_rules.specs.Host.{reply_of, without, spend, due, left}
 use Rattle.plan_file.specs.Events.{emission_count}
 
 pub size_without : (q : ℕ) (rs : List Reply) → length (reply_of q rs) + emission_count (without q rs) ≡ emission_count rs
-unfolding reply_of without emission_count if◌then◌else◌
+unfolding reply_of without emission_count if◌then◌otherwise◌
 size_without q [] = omega arith
 size_without q (r ∷ rs) = go (eqb q r.process) (size_without q rs)
   where
-    go : (t : _) → length (reply_of q rs) + emission_count (without q rs) ≡ emission_count rs → length (if t then r.messages else reply_of q rs) + emission_count (if t then rs else r ∷ without q rs) ≡ length r.messages + emission_count rs
+    go : (t : _) → length (reply_of q rs) + emission_count (without q rs) ≡ emission_count rs → length (if t then r.messages otherwise reply_of q rs) + emission_count (if t then rs otherwise r ∷ without q rs) ≡ length r.messages + emission_count rs
     go true h = refl
     go false h = omega arith
 
@@ -32,9 +32,9 @@ size_spend rs (e ∷ bs) =
 
 -- With one more entry.
 pub left_same : (p : Plan) (e : Entry) (es : List Entry) → commits e ≡ false → left p (e ∷ es) ≡ left p es
-unfolding left if◌then◌else◌
+unfolding left if◌then◌otherwise◌
 left_same p e es c = rw c
 
 pub left_less : (p : Plan) (e : Entry) (es : List Entry) → commits e ≡ true → left p (e ∷ es) ≡ spend (in_hand es) (left p es)
-unfolding left if◌then◌else◌
+unfolding left if◌then◌otherwise◌
 left_less p e es c = rw c

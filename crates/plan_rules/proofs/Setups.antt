@@ -7,7 +7,7 @@ use native.Mathlib.Omega.{arith}
 use lib.Dec.{leb, ltb, eqb}
 use lib.ListN.{length, take, drop}
 use borrow.Author.Tests.{leb-true, leb-false, ltb-true, ltb-false, eqb-true, eqb-false, le-leb, lt-leb, le-ltb, lt-ltb, eq-eqb}
-use Rattle.rules.specs.Base.{if◌then◌else◌, up_from, up_to, any, any_of, member, sum, count, rising}
+use Rattle.rules.specs.Base.{if◌then◌otherwise◌, up_from, up_to, any, any_of, member, sum, count, rising}
 use Rattle.rules.specs.State.{Edge}
 use Rattle.rules.specs.Build.{Target, targets, edge_to, edges_of, built, missing, unexpected, malformed_rows}
 use Rattle.rules.proofs.Tests.{by_test, by_bool}
@@ -169,12 +169,12 @@ member_up q i zero h k = absurd (omega arith)
 member_up q i (suc n) h k = by_bool (eqb q i) (λ t. rw t) (λ t. let g = eqb-false q i t in rw t (member_up q (suc i) n (omega arith) (omega arith)))
 
 none_missing : (n i k : ℕ) → i + k ≤ n → missing (up_from 0 n) (up_from i k) ≡ 0
-unfolding missing up_from if◌then◌else◌
+unfolding missing up_from if◌then◌otherwise◌
 none_missing n i zero h = refl
 none_missing n i (suc k) h = rw (member_up i 0 n (omega arith) (omega arith)) (omega (arith, none_missing n (suc i) k (omega arith)))
 
 none_unexpected : (n i k : ℕ) → i + k ≤ n → count (leb n) (up_from i k) ≡ 0
-unfolding count up_from if◌then◌else◌
+unfolding count up_from if◌then◌otherwise◌
 none_unexpected n i zero h = refl
 none_unexpected n i (suc k) h = rw (lt-leb n i (omega arith)) (omega (arith, none_unexpected n (suc i) k (omega arith)))
 

@@ -6,7 +6,7 @@ use native.Mathlib.Omega.{arith}
 use native.Mathlib.Nat.{mul-le-mul}
 use lib.ListN.{length, length-append}
 use borrow.Author.Tests.{ltb-false}
-use Rattle.rules.specs.Base.{if◌then◌else◌, Maybe, none, some}
+use Rattle.rules.specs.Base.{if◌then◌otherwise◌, Maybe, none, some}
 use Rattle.rules.specs.State.{Event, Counters}
 use Rattle.rules.specs.Answers.{Answer, Accepted, Batch, Advanced, Finished, Committed, Read, Planned, Refused, number}
 use Rattle.rules.specs.Build.{build}
@@ -47,7 +47,7 @@ short_lines n h (e ∷ es) i = rw (length-append (event_line e) (event_lines es)
 
 -- Of all that was handled.
 one_more_batch : (e : Entry) (es : List Entry) → length (event_lines (in_hand es)) ≤ 39 * length (in_hand es) → length (handled_lines es) ≤ 39 * History.handled es → length (handled_lines (e ∷ es)) ≤ 39 * History.handled (e ∷ es)
-unfolding handled_lines if◌then◌else◌
+unfolding handled_lines if◌then◌otherwise◌
 one_more_batch e es h j =
     by_bool (commits e)
     (λ t. let u = handles e es t in rw (t, length-append) (omega (arith, u.handled)))

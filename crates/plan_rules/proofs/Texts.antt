@@ -7,7 +7,7 @@ use native.Mathlib.Nat.{pow-suc}
 use lib.Dec.{ltb}
 use lib.ListN.{length, get_or, length-append, get_or-append}
 use borrow.Author.Tests.{ltb-true, ltb-false, lt-ltb, le-ltb}
-use Rattle.rules.specs.Base.{if◌then◌else◌}
+use Rattle.rules.specs.Base.{if◌then◌otherwise◌}
 use Rattle.rules.proofs.Tests.{by_bool}
 use Rattle.plan_rules.specs.Text.{digits, decimal, nibble, hexadecimal}
 use Rattle.plan_rules.specs.Size.{digit_of, value_from, Texts}
@@ -20,11 +20,11 @@ value_on b a (y ∷ ys) x = value_on b (a * b + digit_of y) ys x
 
 -- A digit of decimal and of hexadecimal is read as it was written.
 digit_low : (d : ℕ) → d < 10 → digit_of (48 + d) ≡ d
-unfolding digit_of if◌then◌else◌
+unfolding digit_of if◌then◌otherwise◌
 digit_low d h = rw (lt-ltb (48 + d) 58 (omega arith)) (omega arith)
 
 digit_nibble : (d : ℕ) → digit_of (nibble d) ≡ d
-unfolding nibble if◌then◌else◌
+unfolding nibble if◌then◌otherwise◌
 digit_nibble d = by_bool (ltb d 10) (λ t. rw t (digit_low d (ltb-true d 10 t))) (λ t. rw t (high (ltb-false d 10 t)))
   where
     high : 10 ≤ d → digit_of (87 + d) ≡ d
@@ -32,12 +32,12 @@ digit_nibble d = by_bool (ltb d 10) (λ t. rw t (digit_low d (ltb-true d 10 t)))
 
 -- What digits does, by the test.
 digits_low : (k n : ℕ) → n < 10 → digits k n ≡ (48 + n) ∷ []
-unfolding digits if◌then◌else◌
+unfolding digits if◌then◌otherwise◌
 digits_low zero n h = refl
 digits_low (suc k) n h = rw (lt-ltb n 10 h)
 
 digits_high : (k n : ℕ) → 10 ≤ n → digits (suc k) n ≡ digits k (n / 10) ++ ((48 + n % 10) ∷ [])
-unfolding digits if◌then◌else◌
+unfolding digits if◌then◌otherwise◌
 digits_high k n h = rw (le-ltb n 10 h)
 
 value_low : (k n : ℕ) → n < 10 → value_from 10 0 (digits k n) ≡ n

@@ -1,6 +1,6 @@
 -- "The same reading is exported to the C host over two byte slices, plan and listing."
 use Rattle.std.specs.Prelude.{List, [], ◌++◌, ℕ, ◌-◌, leb, length, replicate}
-use Rattle.rules.specs.Base.{if◌then◌else◌}
+use Rattle.rules.specs.Base.{if◌then◌otherwise◌}
 use Rattle.plan_file.specs.File
 use Rattle.plan_file.specs.File.{decode}
 use Rattle.plan_rules.specs.Listing.{Rehearsal, listed, refused, rehearsed}
@@ -25,7 +25,7 @@ untouched k lent = record { number = k; slice = lent }
 -- "or listing longer than the host's slice"
 unfoldable pub handed_over : Rehearsal → List ℕ → Exported
 handed_over (refused k) lent = cleared k lent
-handed_over (listed l) lent = if leb (length l) (length lent) then written l lent else cleared 39 lent
+handed_over (listed l) lent = if leb (length l) (length lent) then written l lent otherwise cleared 39 lent
 
 unfoldable pub exported_of : File.Answer → List ℕ → Exported
 exported_of (File.refused k) lent = untouched k lent

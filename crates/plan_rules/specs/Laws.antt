@@ -1,6 +1,6 @@
 -- What the definitions say in other words, for every plan: proved, so that a reader may believe either.
 use Rattle.std.specs.Prelude.{◌≡◌, Bool, true, false, not, ◌||◌, List, [], ◌∷◌, ◌++◌, map, ℕ, ◌+◌, ◌*◌, ◌≤◌, leb, ltb, eqb, length, get_or}
-use Rattle.rules.specs.Base.{if◌then◌else◌, up_to, any, member, non_empty, rising, none, some}
+use Rattle.rules.specs.Base.{if◌then◌otherwise◌, up_to, any, member, non_empty, rising, none, some}
 use Rattle.rules.specs.Foreign.{foreign}
 use Rattle.rules.specs.State.{Message, Event, State, Counters, unset, zeros, max_processes, max_edges}
 use Rattle.rules.specs.Answers
@@ -62,11 +62,11 @@ pub record Limits (p : Plan) : Type 0 where
 -- The replies of the process q in the file's order, and how many events q has handled.
 unfoldable pub replies_by : ℕ → List Reply → List (List Message)
 replies_by q [] = []
-replies_by q (r ∷ rs) = if eqb q r.process then r.messages ∷ replies_by q rs else replies_by q rs
+replies_by q (r ∷ rs) = if eqb q r.process then r.messages ∷ replies_by q rs otherwise replies_by q rs
 
 unfoldable pub handled_by : ℕ → List Entry → ℕ
 handled_by q [] = 0
-handled_by q (e ∷ es) = (if commits e then length (events_at q (in_hand es)) else 0) + handled_by q es
+handled_by q (e ∷ es) = (if commits e then length (events_at q (in_hand es)) otherwise 0) + handled_by q es
 
 -- "The k-th reply of a process answers its k-th handled event; later ones get an empty reply."
 abbrev pub answer_to : Plan → List Entry → Event → List Message

@@ -1,6 +1,6 @@
 -- The listing of a plan, from the history of its run.
 use Rattle.std.specs.Prelude.{List, [], ◌∷◌, ◌++◌, ℕ}
-use Rattle.rules.specs.Base.{if◌then◌else◌, Maybe, none, some}
+use Rattle.rules.specs.Base.{if◌then◌otherwise◌, Maybe, none, some}
 use Rattle.rules.specs.State.{Event, State, zeros}
 use Rattle.rules.specs.Answers.{number}
 use Rattle.rules.specs.Build.{build}
@@ -21,7 +21,7 @@ event_lines (e ∷ es) = event_line e ++ event_lines es
 -- "a line per handled event .., by round then process, none for a batch refused by other than 24": a batch is in the order of its processes.
 unfoldable pub handled_lines : List Entry → List ℕ
 handled_lines [] = []
-handled_lines (e ∷ es) = handled_lines es ++ (if commits e then event_lines (in_hand es) else [])
+handled_lines (e ∷ es) = handled_lines es ++ (if commits e then event_lines (in_hand es) otherwise [])
 
 -- "`end`, refusal number or 0, GVT in 32 digits, rounds, null messages": 101, 110 and 100 are `end`.
 unfoldable pub end_line : ℕ → ℕ → ℕ → ℕ → List ℕ
@@ -42,7 +42,7 @@ pub data Rehearsal : Type 0 where
 
 unfoldable pub once_built : Plan → ℕ → Maybe State → Rehearsal
 once_built p k none = listed (end_line k 0 0 0)
-once_built p k (some s) = let whole = listed (listing (ran p)) in if too_long p then refused 39 else whole
+once_built p k (some s) = let whole = listed (listing (ran p)) in if too_long p then refused 39 otherwise whole
 
 -- "Build comes first, then 39, the initial events in turn, then the run; the first refusal ends it." "with zeros where nothing was built"
 unfoldable pub rehearsed : Plan → Rehearsal

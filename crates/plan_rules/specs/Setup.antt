@@ -1,6 +1,6 @@
 -- What build is given of a plan, and 39.
 use Rattle.std.specs.Prelude.{Bool, List, [], ◌∷◌, map, ℕ, suc, ◌/◌, ltb, eqb}
-use Rattle.rules.specs.Base.{if◌then◌else◌, up_to}
+use Rattle.rules.specs.Base.{if◌then◌otherwise◌, up_to}
 use Rattle.rules.specs.Build.{Setup, least_lookahead}
 use Rattle.plan_file.specs.Plan.{PlanEdge, Plan}
 
@@ -12,7 +12,7 @@ pub record TopologyRow : Type 0 where
 -- Edges of one source that stand side by side are one row, in the file's order. Where sources fall, the rows do not rise.
 unfoldable pub joined : ℕ → List TopologyRow → List TopologyRow
 joined p [] = record { source = p; count = 1 } ∷ []
-joined p (r ∷ rs) = if eqb p r.source then record { source = p; count = suc r.count } ∷ rs else record { source = p; count = 1 } ∷ r ∷ rs
+joined p (r ∷ rs) = if eqb p r.source then record { source = p; count = suc r.count } ∷ rs otherwise record { source = p; count = 1 } ∷ r ∷ rs
 
 unfoldable pub edge_rows : List PlanEdge → List TopologyRow
 edge_rows [] = []
@@ -21,7 +21,7 @@ edge_rows (e ∷ es) = joined e.source (edge_rows es)
 -- "Every process has a row": an empty one before the first row of a greater source, where it has none. One row more never makes rows rise that did not.
 unfoldable pub place : ℕ → List TopologyRow → List TopologyRow
 place p [] = record { source = p; count = 0 } ∷ []
-place p (r ∷ rs) = if ltb p r.source then record { source = p; count = 0 } ∷ r ∷ rs else if eqb p r.source then r ∷ rs else r ∷ place p rs
+place p (r ∷ rs) = if ltb p r.source then record { source = p; count = 0 } ∷ r ∷ rs otherwise if eqb p r.source then r ∷ rs otherwise r ∷ place p rs
 
 unfoldable pub place_all : List ℕ → List TopologyRow → List TopologyRow
 place_all [] rs = rs

@@ -1,6 +1,6 @@
 -- Numbers read back from their bytes, and how long a listing can get.
 use Rattle.std.specs.Prelude.{◌≡◌, false, List, [], ◌∷◌, ℕ, ◌+◌, ◌*◌, ◌-◌, ◌^◌, ◌≤◌, ◌<◌, ltb, length, get_or}
-use Rattle.rules.specs.Base.{if◌then◌else◌}
+use Rattle.rules.specs.Base.{if◌then◌otherwise◌}
 use Rattle.rules.specs.State.{zeros}
 use Rattle.rules.specs.Answers.{Accepted}
 use Rattle.rules.specs.Build.{build}
@@ -15,7 +15,7 @@ use Rattle.plan_rules.specs.Export.{exported, written, printed}
 
 -- The value of a digit, and of digits to the base b behind those whose value is a.
 unfoldable pub digit_of : ℕ → ℕ
-digit_of x = if ltb x 58 then x - 48 else x - 87
+digit_of x = if ltb x 58 then x - 48 otherwise x - 87
 
 unfoldable pub value_from : ℕ → ℕ → List ℕ → ℕ
 value_from b a [] = a

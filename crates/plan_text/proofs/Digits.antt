@@ -7,19 +7,19 @@ use native.Mathlib.Nat.{add-zero, mul_assoc, pow-suc}
 use lib.Dec.{ltb}
 use lib.ListN.{length}
 use borrow.Author.Tests.{ltb-true, ltb-false, lt-ltb, le-ltb}
-use Rattle.rules.specs.Base.{if◌then◌else◌}
+use Rattle.rules.specs.Base.{if◌then◌otherwise◌}
 use Rattle.rules.proofs.Tests.{by_bool}
 use Rattle.types.specs.Value.{halves}
 use Rattle.plan_rules.specs.Text.{digits, decimal, nibble, hexadecimal}
 use Rattle.plan_rules.proofs.Texts.{length_digits}
 
 digits_low : (k n : ℕ) → n < 10 → digits k n ≡ (48 + n) ∷ []
-unfolding digits if◌then◌else◌
+unfolding digits if◌then◌otherwise◌
 digits_low zero n h = refl
 digits_low (suc k) n h = rw (lt-ltb n 10 h)
 
 digits_high : (k n : ℕ) → 10 ≤ n → digits (suc k) n ≡ digits k (n / 10) ++ ((48 + n % 10) ∷ [])
-unfolding digits if◌then◌else◌
+unfolding digits if◌then◌otherwise◌
 digits_high k n h = rw (le-ltb n 10 h)
 
 -- More room for digits changes nothing.
@@ -70,9 +70,9 @@ unfolding halves
 hexadecimal_halves hi lo h = behind 16 16 hi lo h
 
 pub nibble_low : (d r : ℕ) → d < 10 → r ≡ 48 + d → r ≡ nibble d
-unfolding nibble if◌then◌else◌
+unfolding nibble if◌then◌otherwise◌
 nibble_low d r h e = rw (lt-ltb d 10 h) e
 
 pub nibble_high : (d r : ℕ) → 10 ≤ d → r ≡ 87 + d → r ≡ nibble d
-unfolding nibble if◌then◌else◌
+unfolding nibble if◌then◌otherwise◌
 nibble_high d r h e = rw (le-ltb d 10 h) e

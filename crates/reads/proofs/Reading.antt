@@ -9,7 +9,7 @@ use Rattle.types.specs.Value.{ticks_of}
 use Rattle.words.proofs.Tab.{length_tab}
 use Rattle.records.specs.Records.{event_at, events_of}
 use Rattle.records.specs.Queue.{event_ticks}
-use Rattle.rules.specs.Base.{if◌then◌else◌}
+use Rattle.rules.specs.Base.{if◌then◌otherwise◌}
 use Rattle.rules.specs.State as R
 use Rattle.rules.specs.State.{State, max_tick}
 use Rattle.rules.specs.Answers as A
@@ -26,11 +26,11 @@ use Rattle.reads.specs.Reads.{Reads}
 use Rattle.reads.proofs.Numbering.{numbered}
 
 read_11 : (s : State) (c : R.Counters) (a : A.Reading) → foreign s ≡ true → refuse s c A.ForeignState ≡ read s c a
-unfolding read unless if◌then◌else◌
+unfolding read unless if◌then◌otherwise◌
 read_11 s c a f = rw f
 
 read_passed : (s : State) (c : R.Counters) (a : A.Reading) → foreign s ≡ false → out (A.Read a) s c ≡ read s c a
-unfolding read unless if◌then◌else◌
+unfolding read unless if◌then◌otherwise◌
 read_passed s c a f = rw f
 
 module _ (s : Runtime) where

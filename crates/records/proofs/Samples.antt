@@ -3,7 +3,7 @@ use mathlib.Core.Path.{◌≡◌, refl}
 use mathlib.Core.List.{[], ◌∷◌}
 use Rattle.types.specs.Value.{halves}
 use Rattle.words.specs.Words.{tab, tick_at}
-use Rattle.rules.specs.Base.{if◌then◌else◌}
+use Rattle.rules.specs.Base.{if◌then◌otherwise◌}
 use Rattle.records.specs.Records.{payload_byte, payload_of, record_in, event_at, events_of, edge_at, edges_of}
 
 -- Destination 1, tick 2^64 + 5, source 3, sequence 7, the payload 1, 2; past the end an event is all zeros.
@@ -12,7 +12,7 @@ one_event :
     ≡ record { source = 3; destination = 1; tick = 18446744073709551621; sequence = 7; payload = 1 ∷ 2 ∷ [] }
     ∷ record { source = 0; destination = 0; tick = 0; sequence = 0; payload = [] }
     ∷ []
-unfolding halves tab tick_at if◌then◌else◌ payload_byte payload_of record_in event_at
+unfolding halves tab tick_at if◌then◌otherwise◌ payload_byte payload_of record_in event_at
 one_event = refl
 
 -- From 0 to 1, lookahead 3, bound 2^64 + 4.
@@ -23,5 +23,5 @@ one_edge = refl
 seventeen_bytes :
     payload_of 17 72623859790382856 651345242494996240
     ≡ 1 ∷ 2 ∷ 3 ∷ 4 ∷ 5 ∷ 6 ∷ 7 ∷ 8 ∷ 9 ∷ 10 ∷ 11 ∷ 12 ∷ 13 ∷ 14 ∷ 15 ∷ 16 ∷ 0 ∷ []
-unfolding tab if◌then◌else◌ payload_byte payload_of
+unfolding tab if◌then◌otherwise◌ payload_byte payload_of
 seventeen_bytes = refl

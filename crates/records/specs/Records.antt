@@ -2,7 +2,7 @@
 use Rattle.std.specs.Prelude.{List, [], ◌∷◌, ◌++◌, ℕ, ◌+◌, ◌-◌, ◌*◌, ◌^◌, ◌/◌, ◌%◌, ◌<◌, ltb, get_or, take, drop}
 use Rattle.types.specs.Value.{halves}
 use Rattle.words.specs.Words.{tab, tick_at}
-use Rattle.rules.specs.Base.{if◌then◌else◌}
+use Rattle.rules.specs.Base.{if◌then◌otherwise◌}
 use Rattle.rules.specs.State.{Event, Edge}
 use Rattle.records.specs.declared.Record.{Record}
 
@@ -14,8 +14,8 @@ byte_of x k = x / 256 ^ (7 - k) % 256
 unfoldable pub payload_byte : ℕ → ℕ → ℕ → ℕ
 payload_byte upper lower k =
     if ltb k 8 then byte_of upper k
-    else if ltb k 16 then byte_of lower (k - 8)
-    else 0
+    otherwise if ltb k 16 then byte_of lower (k - 8)
+    otherwise 0
 
 -- A payload of the length that a record says.
 unfoldable pub payload_of : ℕ → ℕ → ℕ → List ℕ

@@ -10,7 +10,7 @@ use lib.Seq.{get_or-set_same, get_or-set_other}
 use borrow.Author.Tests.{eqb-true, eqb-false, ne_eqb}
 use Rattle.words.specs.Words.{tab, zeroes}
 use Rattle.words.proofs.Tab.{tab_step, tab_none, tab_whole}
-use Rattle.rules.specs.Base.{if◌then◌else◌, some, any}
+use Rattle.rules.specs.Base.{if◌then◌otherwise◌, some, any}
 use Rattle.rules.specs.State.{Event}
 use Rattle.rules.specs.Pending.{first_of}
 use Rattle.rules.specs.HandBack.{in_batch}
@@ -21,11 +21,11 @@ use Rattle.reply_words.specs.Replies.{place_from, Places}
 
 -- A process has place 0 where it is not in the batch.
 place_none : (i : ℕ) (q : List Event) (p : ℕ) → not (in_batch q p) ≡ eqb (place_from i q p) 0
-unfolding place_from in_batch any if◌then◌else◌
+unfolding place_from in_batch any if◌then◌otherwise◌
 place_none i [] p = refl
 place_none i (e ∷ es) p = go (eqb e.destination p) (place_none (suc i) es p)
   where
-    go : (t : Bool) → not (in_batch es p) ≡ eqb (place_from (suc i) es p) 0 → not (t || in_batch es p) ≡ eqb (if t then suc i else place_from (suc i) es p) 0
+    go : (t : Bool) → not (in_batch es p) ≡ eqb (place_from (suc i) es p) 0 → not (t || in_batch es p) ≡ eqb (if t then suc i otherwise place_from (suc i) es p) 0
     go true h = let n : suc i ≡ 0 → ⊥ = λ e. omega arith in sym (ne_eqb (suc i) 0 n)
     go false h = h
 
@@ -35,13 +35,13 @@ absent q t p h = rw (h p) (place_none 0 q p)
 
 -- Place k + 1 is that of event k, the first of its process.
 first_from : (f : ℕ → Event) (i m p k : ℕ) → place_from i (tab f i m) p ≡ suc k → (k < i + m) × (first_of (tab f i m) p ≡ some (f k))
-unfolding place_from tab first_of if◌then◌else◌
+unfolding place_from tab first_of if◌then◌otherwise◌
 first_from f i zero p k h = absurd (omega arith)
 first_from f i (suc m) p k h = go (eqb (f i).destination p) h (first_from f (suc i) m p k)
   where
-    go : (t : Bool) → (if t then suc i else place_from (suc i) (tab f (suc i) m) p) ≡ suc k
+    go : (t : Bool) → (if t then suc i otherwise place_from (suc i) (tab f (suc i) m) p) ≡ suc k
         → (place_from (suc i) (tab f (suc i) m) p ≡ suc k → (k < suc i + m) × (first_of (tab f (suc i) m) p ≡ some (f k)))
-        → (k < i + suc m) × ((if t then some (f i) else first_of (tab f (suc i) m) p) ≡ some (f k))
+        → (k < i + suc m) × ((if t then some (f i) otherwise first_of (tab f (suc i) m) p) ≡ some (f k))
     go true h ih = let e : i ≡ k = omega arith in (omega arith, rw e)
     go false h ih = let r = ih h in (omega (arith, r.0), r.1)
 
@@ -78,7 +78,7 @@ placing_start w n t e = record {
   places = λ p. ap (λ (x : List ℕ). get_or x p 0) e ∙ noughts 64 p ∙ rw (tab_none (event_at w) n n (omega arith));
 }
 
-word_set : (t : List ℕ) (d p x : ℕ) → d < length t → get_or (set t d x) p 0 ≡ (if eqb d p then x else get_or t p 0)
+word_set : (t : List ℕ) (d p x : ℕ) → d < length t → get_or (set t d x) p 0 ≡ (if eqb d p then x otherwise get_or t p 0)
 word_set t d p x h =
     by_test (λ (y : ℕ). get_or (set t d x) p 0 ≡ y)
     (λ b. let s : d ≡ p = eqb-true d p b in rw (← s) (get_or-set_same t d x 0 h))

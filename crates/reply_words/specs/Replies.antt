@@ -1,13 +1,13 @@
 -- What 26 asks of a reply, with the batch as a table of places.
 use Rattle.std.specs.Prelude.{◌≡◌, Bool, false, not, ◌&&◌, ◌||◌, List, [], ◌∷◌, ℕ, suc, ltb, eqb, length, get_or}
-use Rattle.rules.specs.Base.{if◌then◌else◌, up_to, any, any_of}
+use Rattle.rules.specs.Base.{if◌then◌otherwise◌, up_to, any, any_of}
 use Rattle.rules.specs.State.{Event, max_processes, max_payload}
 use Rattle.rules.specs.HandBack.{Emission, failed, in_batch}
 
 -- The place of p's first event, counted from 1, or 0 if it has none; the first of the list has place i + 1.
 unfoldable pub place_from : ℕ → List Event → ℕ → ℕ
 place_from i [] p = 0
-place_from i (e ∷ es) p = if eqb e.destination p then suc i else place_from (suc i) es p
+place_from i (e ∷ es) p = if eqb e.destination p then suc i otherwise place_from (suc i) es p
 
 -- The table t holds the place of every process's event in the batch q. Past its end it reads 0: such a process has none.
 unfoldable pub Places : List Event → List ℕ → Type 0

@@ -6,7 +6,7 @@ use Prim.Native.Nat.{ℕ, ◌≤◌, ◌<◌}
 use lib.Dec.{ltb, eqb}
 use lib.ListN.{length, get_or}
 use borrow.Author.Tests.{leb-false, ltb-false, eqb-true, eqb-false}
-use Rattle.rules.specs.Base.{if◌then◌else◌, any, any_of, up_to}
+use Rattle.rules.specs.Base.{if◌then◌otherwise◌, any, any_of, up_to}
 use Rattle.rules.specs.State.{Event, Message, State}
 use Rattle.rules.specs.Rows.{Row}
 use Rattle.rules.specs.Pending.{route, lookahead_along}
@@ -43,11 +43,11 @@ abbrev pub Checked : State → Event → Emission → Type 0
 Checked s b x = x.emitter ≡ b.destination → Routed s x.emitter b.tick x.message × InTime s x.message
 
 checked_emissions : (s : State) (b : Event) (xs : List Emission) → Passed (emission_rows s b xs) → All (Checked s b) xs
-unfolding emission_rows if◌then◌else◌
+unfolding emission_rows if◌then◌otherwise◌
 checked_emissions s b [] i = tt
 checked_emissions s b (x ∷ xs) i = go (eqb x.emitter b.destination) refl i (checked_emissions s b xs)
   where
-    go : (t : Bool) → eqb x.emitter b.destination ≡ t → Passed (if t then (message_rows s.n (route s.edges) (along s x.emitter x.message) x.emitter b.tick x.message ++ (straggler_row s x.message ∷ emission_rows s b xs)) else emission_rows s b xs)
+    go : (t : Bool) → eqb x.emitter b.destination ≡ t → Passed (if t then (message_rows s.n (route s.edges) (along s x.emitter x.message) x.emitter b.tick x.message ++ (straggler_row s x.message ∷ emission_rows s b xs)) otherwise emission_rows s b xs)
         → (Passed (emission_rows s b xs) → All (Checked s b) xs) → All (Checked s b) (x ∷ xs)
     go true e i ih = ((λ _. (routed s x.emitter b.tick x.message (i.0, (i.1.0, (i.1.1.0, (i.1.1.1.0, (i.1.1.1.1.0, tt))))), ltb-false _ _ i.1.1.1.1.1.0)), ih i.1.1.1.1.1.1)
     go false e i ih = ((λ h. absurd (eqb-false x.emitter b.destination e h)), ih i)

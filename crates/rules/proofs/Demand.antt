@@ -5,7 +5,7 @@ use mathlib.Core.List.{List, [], ◌∷◌}
 use Prim.Native.Nat.{ℕ, suc, ◌<◌}
 use native.Mathlib.Omega.{arith}
 use lib.ListN.{length}
-use Rattle.rules.specs.Base.{if◌then◌else◌, up_to, count}
+use Rattle.rules.specs.Base.{if◌then◌otherwise◌, up_to, count}
 use Rattle.rules.specs.State.{State, Counters}
 use Rattle.rules.specs.Answers.{Reading, Pending, Counted, Read, Accepted}
 use Rattle.rules.specs.Rows.{unless, Out}
@@ -142,7 +142,7 @@ sound_built a c e =
 
 -- Reads of a state that 11 lets pass.
 read_answers : (s : State) (c : Counters) (r : Reading) → foreign s ≡ false → (read s c r).answer ≡ Read r
-unfolding read unless if◌then◌else◌
+unfolding read unless if◌then◌otherwise◌
 read_answers s c r f = rw f
 
 pub demanded : (a : Setup) (y : History) → Sound a y → Demanded a y

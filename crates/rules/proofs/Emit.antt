@@ -7,7 +7,7 @@ use native.Mathlib.Omega.{arith}
 use lib.Dec.{eqb}
 use lib.ListN.{get_or}
 use borrow.Author.Tests.{eqb-true, eqb-false, ne_eqb}
-use Rattle.rules.specs.Base.{if◌then◌else◌, any}
+use Rattle.rules.specs.Base.{if◌then◌otherwise◌, any}
 use Rattle.rules.specs.State.{Event, Message, Edge, State}
 use Rattle.rules.specs.Pending.{joins, route, lookahead_along}
 use Rattle.rules.specs.HandBack.{minimum}
@@ -18,11 +18,11 @@ use Rattle.rules.proofs.Checks.{along, Routed}
 use Rattle.rules.proofs.Fair.{Reach, Capped, Under, Le, InHand, Fine}
 
 to_itself : (L p t : ℕ) (m : Message) → eqb m.destination p ≡ true → minimum L p t m ≡ t
-unfolding minimum if◌then◌else◌
+unfolding minimum if◌then◌otherwise◌
 to_itself L p t m e = rw e
 
 to_another : (L p t : ℕ) (m : Message) → eqb m.destination p ≡ false → minimum L p t m ≡ t + L
-unfolding minimum if◌then◌else◌
+unfolding minimum if◌then◌otherwise◌
 to_another L p t m e = rw e
 
 along_edge : (es : List Edge) (p d : ℕ) → (d ≡ p → ⊥) → route es p d ≡ true → any (joins p d) es ≡ true
@@ -31,12 +31,12 @@ along_edge es p d n h = or_else (eqb p d) (any (joins p d) es) (ne_eqb p d (λ e
 
 -- The edge whose lookahead counts is one that leads there.
 along_some : {C : Type 0} (a d : ℕ) (es : List Edge) → any (joins a d) es ≡ true → All (λ (k : Edge). joins a d k ≡ true → k.lookahead ≡ lookahead_along es a d → C) es → C
-unfolding any lookahead_along if◌then◌else◌
+unfolding any lookahead_along if◌then◌otherwise◌
 along_some a d [] h i = absurd (true≢false (sym h))
 along_some {C} a d (e ∷ es) h i = go (joins a d e) refl h i.0 i.1 (along_some a d es)
   where
-    go : (t : Bool) → joins a d e ≡ t → t || any (joins a d) es ≡ true → (joins a d e ≡ true → e.lookahead ≡ (if t then e.lookahead else lookahead_along es a d) → C)
-        → All (λ (k : Edge). joins a d k ≡ true → k.lookahead ≡ (if t then e.lookahead else lookahead_along es a d) → C) es
+    go : (t : Bool) → joins a d e ≡ t → t || any (joins a d) es ≡ true → (joins a d e ≡ true → e.lookahead ≡ (if t then e.lookahead otherwise lookahead_along es a d) → C)
+        → All (λ (k : Edge). joins a d k ≡ true → k.lookahead ≡ (if t then e.lookahead otherwise lookahead_along es a d) → C) es
         → (any (joins a d) es ≡ true → All (λ (k : Edge). joins a d k ≡ true → k.lookahead ≡ lookahead_along es a d → C) es → C) → C
     go true j h f r ih = f j refl
     go false j h f r ih = ih h r

@@ -7,7 +7,7 @@ use native.Mathlib.Omega.{arith}
 use lib.Dec.{leb, ltb}
 use lib.ListN.{length}
 use borrow.Author.Tests.{ltb-true, ltb-false, leb-true, leb-false, le-leb, le-ltb}
-use Rattle.rules.specs.Base.{if◌then◌else◌, Maybe, none, some, is_some, up_from, up_to, any, every, non_empty}
+use Rattle.rules.specs.Base.{if◌then◌otherwise◌, Maybe, none, some, is_some, up_from, up_to, any, every, non_empty}
 use Rattle.rules.specs.State.{Event, Edge, State, max_tick}
 use Rattle.rules.specs.Pending.{first_of, tick_or, first_tick}
 use Rattle.rules.specs.Frontiers.{least_into, recorded, safe, below, eligible, any_eligible}
@@ -66,10 +66,10 @@ safe_low n m es H p c i q h = lesser_low max_tick H (lowest es c) (recorded m p)
 
 -- Where p is not eligible, its input frontier is safe(p).
 late : (e : Event) (k : ℕ) → is_some (below k (some e)) ≡ false → k ≤ e.tick
-unfolding below is_some if◌then◌else◌
+unfolding below is_some if◌then◌otherwise◌
 late e k h = go (ltb e.tick k) refl h
   where
-    go : (t : Bool) → ltb e.tick k ≡ t → is_some (if t then some e else none) ≡ false → k ≤ e.tick
+    go : (t : Bool) → ltb e.tick k ≡ t → is_some (if t then some e otherwise none) ≡ false → k ≤ e.tick
     go true d h = absurd (true≢false h)
     go false d h = ltb-false e.tick k d
 
@@ -92,13 +92,13 @@ unfolding input_frontier
 frontier_le s H p = omega (arith, safe_le s.inbound H p)
 
 -- What a bound rises to is min(H, input frontier + L): overflow changes nothing where H is a tick.
-choose_low : (T H a : ℕ) → min H a ≤ (if ltb T a then H else min H a)
+choose_low : (T H a : ℕ) → min H a ≤ (if ltb T a then H otherwise min H a)
 choose_low T H a = by_test (λ (x : ℕ). min H a ≤ x) (λ t. omega arith) (λ t. omega arith)
 
-choose_le : (T H a : ℕ) → (if ltb T a then H else min H a) ≤ H
+choose_le : (T H a : ℕ) → (if ltb T a then H otherwise min H a) ≤ H
 choose_le T H a = by_test (λ (x : ℕ). x ≤ H) (λ t. omega arith) (λ t. omega arith)
 
-choose_high : (T H a : ℕ) → H ≤ T → (if ltb T a then H else min H a) ≤ min H a
+choose_high : (T H a : ℕ) → H ≤ T → (if ltb T a then H otherwise min H a) ≤ min H a
 choose_high T H a h = by_test (λ (x : ℕ). x ≤ min H a) (λ t. omega (arith, ltb-true T a t)) (λ t. omega arith)
 
 pub bound_low : (s : State) (H : ℕ) (e : Edge) → min H (input_frontier s H e.source + e.lookahead) ≤ new_bound s H e
@@ -116,7 +116,7 @@ bound_high s H e h = choose_high max_tick H (input_frontier s H e.source + e.loo
 -- Bounds
 
 abbrev one_if : Bool → ℕ
-one_if b = if b then 1 else 0
+one_if b = if b then 1 otherwise 0
 
 one_le : (a b : ℕ) → one_if (ltb a b) ≤ 1
 one_le a b = by_test (λ (x : ℕ). x ≤ 1) (λ t. omega arith) (λ t. omega arith)

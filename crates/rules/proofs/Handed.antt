@@ -7,7 +7,7 @@ use native.Mathlib.Omega.{arith}
 use lib.Dec.{eqb}
 use lib.ListN.{get_or}
 use borrow.Author.Tests.{eqb-false}
-use Rattle.rules.specs.Base.{if◌then◌else◌, some, up_from}
+use Rattle.rules.specs.Base.{if◌then◌otherwise◌, some, up_from}
 use Rattle.rules.specs.State.{Event, Message, numbered}
 use Rattle.rules.specs.Pending.{insert, first_of, without_first, queue}
 use Rattle.rules.specs.Step.{BatchTaken, take_eligible}
@@ -41,11 +41,11 @@ Above g q = All (λ d. All (λ f. Le d f) q) g
 
 -- p's first event is not above what is left there.
 first_le : (q : List Event) (p : ℕ) (e : Event) → first_of q p ≡ some e → Sorted q → All (λ f. Le e f) (without_first q p)
-unfolding first_of without_first if◌then◌else◌
+unfolding first_of without_first if◌then◌otherwise◌
 first_le [] p e h i = tt
 first_le (f ∷ fs) p e h i = go (eqb f.destination p) refl h (first_le fs p e)
   where
-    go : (t : Bool) → eqb f.destination p ≡ t → (if t then some f else first_of fs p) ≡ some e → (first_of fs p ≡ some e → Sorted fs → All (λ r. Le e r) (without_first fs p)) → All (λ r. Le e r) (if t then fs else f ∷ without_first fs p)
+    go : (t : Bool) → eqb f.destination p ≡ t → (if t then some f otherwise first_of fs p) ≡ some e → (first_of fs p ≡ some e → Sorted fs → All (λ r. Le e r) (without_first fs p)) → All (λ r. Le e r) (if t then fs otherwise f ∷ without_first fs p)
     go true d h ih = let z : f ≡ e = cc in subst (λ (x : Event). All (λ r. Le x r) fs) z (all_map (Before f) (λ r. Le f r) (λ r b. b.ticks) fs i.0)
     go false d h ih = ((λ x. absurd (eqb-false f.destination p d (sym x ∙ first_destination fs p e h))), ih h i.1)
 

@@ -7,7 +7,7 @@ use native.Mathlib.Omega.{arith}
 use lib.Dec.{ltb}
 use lib.ListN.{length}
 use borrow.Author.Tests.{ltb-true, ltb-false, lt-ltb, le-ltb}
-use Rattle.rules.specs.Base.{if◌then◌else◌, some, up_from, up_to}
+use Rattle.rules.specs.Base.{if◌then◌otherwise◌, some, up_from, up_to}
 use Rattle.rules.specs.State.{Edge, with_bound, State, Counters, zeros}
 use Rattle.rules.specs.Rows.{Out}
 use Rattle.rules.specs.Foreign.{foreign}
@@ -50,14 +50,14 @@ abbrev lifted : State → ℕ → Edge → Edge
 lifted s H e = with_bound e (max e.bound (new_bound s H e))
 
 abbrev rise : State → ℕ → Edge → ℕ
-rise s H e = if ltb e.bound (lifted s H e).bound then 1 else 0
+rise s H e = if ltb e.bound (lifted s H e).bound then 1 otherwise 0
 
-one_if_holds : (k : ℕ) (t : Bool) → t ≡ true → suc k ≡ k + (if t then 1 else 0)
-unfolding if◌then◌else◌
+one_if_holds : (k : ℕ) (t : Bool) → t ≡ true → suc k ≡ k + (if t then 1 otherwise 0)
+unfolding if◌then◌otherwise◌
 one_if_holds k t e = rw e (omega arith)
 
-none_if : (k : ℕ) (t : Bool) → t ≡ false → k ≡ k + (if t then 1 else 0)
-unfolding if◌then◌else◌
+none_if : (k : ℕ) (t : Bool) → t ≡ false → k ≡ k + (if t then 1 otherwise 0)
+unfolding if◌then◌otherwise◌
 none_if k t e = rw e (omega arith)
 
 -- One edge: its bound is written, or stays.

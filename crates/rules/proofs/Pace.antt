@@ -8,7 +8,7 @@ use native.Mathlib.Nat.{le-div_iff_mul-le, mul-le-mul_left, le_of_mul-le-mul_rig
 use lib.Dec.{leb}
 use lib.ListN.{length}
 use borrow.Author.Tests.{leb-true, leb-false, le-leb}
-use Rattle.rules.specs.Base.{if◌then◌else◌, count, every}
+use Rattle.rules.specs.Base.{if◌then◌otherwise◌, count, every}
 use Rattle.rules.specs.State.{Edge, Stored, unset, stored, State, Counters}
 use Rattle.rules.specs.History.{Entry, History, is_advanced, commits, R, H, handled, rounds, null_message_count}
 use Rattle.rules.proofs.Tests.{not_both}
@@ -18,11 +18,11 @@ use Rattle.rules.proofs.Fronts.{lowest, low_cap, LooksFrom}
 -- Advanced answers in which a bound rose, and those in which none did.
 unfoldable pub sends : List Entry → ℕ
 sends [] = 0
-sends (e ∷ es) = (if is_advanced e.answer then min e.raises 1 else 0) + sends es
+sends (e ∷ es) = (if is_advanced e.answer then min e.raises 1 otherwise 0) + sends es
 
 unfoldable pub lifts : List Entry → ℕ
 lifts [] = 0
-lifts (e ∷ es) = (if is_advanced e.answer then 1 - e.raises else 0) + lifts es
+lifts (e ∷ es) = (if is_advanced e.answer then 1 - e.raises otherwise 0) + lifts es
 
 -- What is counted over a list of calls.
 pub record Counts : Type 0 where

@@ -7,7 +7,7 @@ use native.Mathlib.Omega.{arith}
 use native.Mathlib.Nat.{zero-add}
 use lib.Dec.{leb}
 use lib.ListN.{length}
-use Rattle.rules.specs.Base.{if◌then◌else◌, count, every}
+use Rattle.rules.specs.Base.{if◌then◌otherwise◌, count, every}
 use Rattle.rules.specs.State.{Edge, Stored, stored}
 use Rattle.rules.specs.History.{Entry, horizon, is_advanced, begins, commits, R, H, in_hand, handled, null_message_count}
 use Rattle.rules.proofs.Tests.{not_both}
@@ -18,14 +18,14 @@ use Rattle.rules.proofs.Pace.{Counts, counts_of, sends, lifts, end_of, front, Pa
 -- The counts with one call more: whether it is an accepted begin, an Advanced answer, a hand back that commits; its horizon, its raises, how many were in hand.
 unfoldable grown : Bool → Bool → Bool → ℕ → ℕ → ℕ → Counts → Counts
 grown b a c h r n k = record {
-  runs = (if b then 1 else 0) + k.runs;
-  end = if b then suc h else k.end;
-  handled = (if c then n else 0) + k.handled;
-  commits = (if c then 1 else 0) + k.commits;
-  advances = (if a then 1 else 0) + k.advances;
-  null_messages = (if a then r else 0) + k.null_messages;
-  sends = (if a then min r 1 else 0) + k.sends;
-  lifts = (if a then 1 - r else 0) + k.lifts;
+  runs = (if b then 1 otherwise 0) + k.runs;
+  end = if b then suc h otherwise k.end;
+  handled = (if c then n otherwise 0) + k.handled;
+  commits = (if c then 1 otherwise 0) + k.commits;
+  advances = (if a then 1 otherwise 0) + k.advances;
+  null_messages = (if a then r otherwise 0) + k.null_messages;
+  sends = (if a then min r 1 otherwise 0) + k.sends;
+  lifts = (if a then 1 - r otherwise 0) + k.lifts;
 }
 
 counts_more : (e : Entry) (es : List Entry) → counts_of (e ∷ es) ≡ grown (begins e) (is_advanced e.answer) (commits e) (horizon e.call) e.raises (length (in_hand es)) (counts_of es)
@@ -44,19 +44,19 @@ returned k n = record { runs = k.runs; end = k.end; handled = n + k.handled; com
 
 module _ (h r n : ℕ) (k : Counts) where
   grown_quiet : grown false false false h r n k ≡ k
-  unfolding grown if◌then◌else◌
+  unfolding grown if◌then◌otherwise◌
   grown_quiet = rw (zero-add k.runs, zero-add k.handled, zero-add k.commits, zero-add k.advances, zero-add k.null_messages, zero-add k.sends, zero-add k.lifts) refl
 
   grown_begun : grown true false false h r n k ≡ begun k h
-  unfolding grown if◌then◌else◌
+  unfolding grown if◌then◌otherwise◌
   grown_begun = rw (zero-add k.handled, zero-add k.commits, zero-add k.advances, zero-add k.null_messages, zero-add k.sends, zero-add k.lifts) refl
 
   grown_moved : grown false true false h r n k ≡ moved k r
-  unfolding grown if◌then◌else◌
+  unfolding grown if◌then◌otherwise◌
   grown_moved = rw (zero-add k.runs, zero-add k.handled, zero-add k.commits) refl
 
   grown_returned : grown false false true h r n k ≡ returned k n
-  unfolding grown if◌then◌else◌
+  unfolding grown if◌then◌otherwise◌
   grown_returned = rw (zero-add k.runs, zero-add k.advances, zero-add k.null_messages, zero-add k.sends, zero-add k.lifts) refl
 
 -- What a call is, by the three tests.

@@ -7,7 +7,7 @@ use native.Mathlib.Omega.{arith}
 use lib.Dec.{leb, eqb}
 use lib.ListN.{length, get_or}
 use borrow.Author.Tests.{eqb-true, eqb-false, leb-true, leb-false}
-use Rattle.rules.specs.Base.{if◌then◌else◌, up_from, up_to}
+use Rattle.rules.specs.Base.{if◌then◌otherwise◌, up_from, up_to}
 use Rattle.rules.specs.State.{Edge, State, stored, max_tick}
 use Rattle.rules.specs.Frontiers.{least_into, least_inbound, inbound_of, recorded, safe}
 use Rattle.rules.specs.Foreign.{foreign}
@@ -64,11 +64,11 @@ record_below n m es i j =
 
 -- A cap that is lower than another.
 least_cap : (es : List Edge) (T H p : ℕ) → H ≤ T → min (least_into es T p) H ≡ least_into es H p
-unfolding least_into if◌then◌else◌
+unfolding least_into if◌then◌otherwise◌
 least_cap [] T H p h = omega arith
 least_cap (e ∷ es) T H p h = go (eqb e.destination p) (least_cap es T H p h)
   where
-    go : (t : Bool) → min (least_into es T p) H ≡ least_into es H p → min (if t then min e.bound (least_into es T p) else least_into es T p) H ≡ (if t then min e.bound (least_into es H p) else least_into es H p)
+    go : (t : Bool) → min (least_into es T p) H ≡ least_into es H p → min (if t then min e.bound (least_into es T p) otherwise least_into es T p) H ≡ (if t then min e.bound (least_into es H p) otherwise least_into es H p)
     go true i = omega (arith, i)
     go false i = i
 

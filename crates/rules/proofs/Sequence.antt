@@ -5,7 +5,7 @@ use mathlib.Core.List.{List, [], ◌∷◌, ◌++◌, map, append_assoc}
 use Prim.Native.Nat.{ℕ, ◌≤◌}
 use lib.Dec.{eqb}
 use borrow.Author.Tests.{eqb-true}
-use Rattle.rules.specs.Base.{if◌then◌else◌}
+use Rattle.rules.specs.Base.{if◌then◌otherwise◌}
 use Rattle.rules.specs.State.{Event}
 use Rattle.rules.specs.History.{Entry, events, events_at, handed_to}
 use Rattle.rules.specs.Demand.{Nondecreasing}
@@ -28,11 +28,11 @@ on_back (x ∷ xs) ys = on_back xs (x ∷ ys) ∙ ap (λ (l : List Event). l ++ 
 
 -- The events of p among them.
 at_on : (p : ℕ) (es g : List Event) → events_at p (handed_on es g) ≡ handed_on (events_at p es) (events_at p g)
-unfolding events_at if◌then◌else◌
+unfolding events_at if◌then◌otherwise◌
 at_on p [] g = refl
 at_on p (e ∷ es) g = at_on p es (e ∷ g) ∙ go (eqb e.destination p)
   where
-    go : (t : Bool) → handed_on (events_at p es) (if t then e ∷ events_at p g else events_at p g) ≡ handed_on (if t then e ∷ events_at p es else events_at p es) (events_at p g)
+    go : (t : Bool) → handed_on (events_at p es) (if t then e ∷ events_at p g otherwise events_at p g) ≡ handed_on (if t then e ∷ events_at p es otherwise events_at p es) (events_at p g)
     go true = refl
     go false = refl
 
@@ -49,20 +49,20 @@ Falling [] = Unit {0}
 Falling (e ∷ g) = All (λ (d : Event). d.tick ≤ e.tick) g × Falling g
 
 at_all : (P : Event → Type 0) (p : ℕ) (g : List Event) → All P g → All (λ (d : Event). (d.destination ≡ p) × P d) (events_at p g)
-unfolding events_at if◌then◌else◌
+unfolding events_at if◌then◌otherwise◌
 at_all P p [] i = tt
 at_all P p (e ∷ g) i = go (eqb e.destination p) refl (at_all P p g i.1)
   where
-    go : (t : Bool) → eqb e.destination p ≡ t → All (λ (d : Event). (d.destination ≡ p) × P d) (events_at p g) → All (λ (d : Event). (d.destination ≡ p) × P d) (if t then e ∷ events_at p g else events_at p g)
+    go : (t : Bool) → eqb e.destination p ≡ t → All (λ (d : Event). (d.destination ≡ p) × P d) (events_at p g) → All (λ (d : Event). (d.destination ≡ p) × P d) (if t then e ∷ events_at p g otherwise events_at p g)
     go true h r = ((eqb-true e.destination p h, i.0), r)
     go false h r = r
 
 falling : (p : ℕ) (g : List Event) → Ordered g → Falling (events_at p g)
-unfolding events_at if◌then◌else◌
+unfolding events_at if◌then◌otherwise◌
 falling p [] o = tt
 falling p (e ∷ g) o = go (eqb e.destination p) refl (falling p g o.1)
   where
-    go : (t : Bool) → eqb e.destination p ≡ t → Falling (events_at p g) → Falling (if t then e ∷ events_at p g else events_at p g)
+    go : (t : Bool) → eqb e.destination p ≡ t → Falling (events_at p g) → Falling (if t then e ∷ events_at p g otherwise events_at p g)
     go true h r = (all_map (λ (d : Event). (d.destination ≡ p) × Le d e) (λ (d : Event). d.tick ≤ e.tick) (λ d k. k.1 (k.0 ∙ sym (eqb-true e.destination p h))) (events_at p g) (at_all (λ d. Le d e) p g o.0), r)
     go false h r = r
 

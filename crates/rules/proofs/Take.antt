@@ -7,7 +7,7 @@ use native.Mathlib.Omega.{arith}
 use lib.Dec.{ltb}
 use lib.ListN.{length}
 use borrow.Author.Tests.{ltb-true}
-use Rattle.rules.specs.Base.{if◌then◌else◌, Maybe, none, some, up_from}
+use Rattle.rules.specs.Base.{if◌then◌otherwise◌, Maybe, none, some, up_from}
 use Rattle.rules.specs.State.{Event}
 use Rattle.rules.specs.Pending.{first_of, without_first}
 use Rattle.rules.specs.Frontiers.{safe, below, eligible}
@@ -18,11 +18,11 @@ use Rattle.rules.proofs.Tally.{eligible_first}
 
 -- An eligible event is below its frontier.
 pub below_safe : (k : ℕ) (m : Maybe Event) (e : Event) → below k m ≡ some e → e.tick < k
-unfolding below if◌then◌else◌
+unfolding below if◌then◌otherwise◌
 below_safe k none e h = let z : ◌≡◌ {A = ℕ} 0 1 = cc in absurd (omega arith)
 below_safe k (some f) e h = go (ltb f.tick k) refl h
   where
-    go : (t : Bool) → ltb f.tick k ≡ t → (if t then some f else none) ≡ some e → e.tick < k
+    go : (t : Bool) → ltb f.tick k ≡ t → (if t then some f otherwise none) ≡ some e → e.tick < k
     go true d h = let z : f ≡ e = cc in rw (← z) (ltb-true f.tick k d)
     go false d h = let z : ◌≡◌ {A = ℕ} 0 1 = cc in absurd (omega arith)
 

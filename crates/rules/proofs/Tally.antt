@@ -6,7 +6,7 @@ use Prim.Native.Nat.{ℕ, zero, suc, ◌+◌, ◌-◌, ◌≤◌, min}
 use native.Mathlib.Omega.{arith}
 use lib.Dec.{ltb, eqb}
 use lib.ListN.{length}
-use Rattle.rules.specs.Base.{if◌then◌else◌, Maybe, none, some, up_to}
+use Rattle.rules.specs.Base.{if◌then◌otherwise◌, Maybe, none, some, up_to}
 use Rattle.rules.specs.State.{Event, Message, State, Counters, numbered, max_count}
 use Rattle.rules.specs.Answers.{Answer}
 use Rattle.rules.specs.Rows.{Out, out}
@@ -38,21 +38,21 @@ length_queue q k (m ∷ ms) = omega (arith, length_queue (insert (numbered m k) 
 
 -- A first event that is there leaves one less.
 length_without : (q : List Event) (p : ℕ) (e : Event) → first_of q p ≡ some e → suc (length (without_first q p)) ≡ length q
-unfolding first_of without_first if◌then◌else◌
+unfolding first_of without_first if◌then◌otherwise◌
 length_without [] p e h = let z : ◌≡◌ {A = ℕ} 0 1 = cc in omega arith
 length_without (f ∷ fs) p e h = go (eqb f.destination p) (length_without fs p e) h
   where
-    go : (t : Bool) → (first_of fs p ≡ some e → suc (length (without_first fs p)) ≡ length fs) → (if t then some f else first_of fs p) ≡ some e → suc (length (if t then fs else f ∷ without_first fs p)) ≡ suc (length fs)
+    go : (t : Bool) → (first_of fs p ≡ some e → suc (length (without_first fs p)) ≡ length fs) → (if t then some f otherwise first_of fs p) ≡ some e → suc (length (if t then fs otherwise f ∷ without_first fs p)) ≡ suc (length fs)
     go true ih h = refl
     go false ih h = ap suc (ih h)
 
 -- An eligible event is the first.
 pub eligible_first : (k : ℕ) (m : Maybe Event) (e : Event) → below k m ≡ some e → m ≡ some e
-unfolding below if◌then◌else◌
+unfolding below if◌then◌otherwise◌
 eligible_first k none e h = let z : ◌≡◌ {A = ℕ} 0 1 = cc in h
 eligible_first k (some f) e h = go (ltb f.tick k) h
   where
-    go : (t : Bool) → (if t then some f else none) ≡ some e → some f ≡ some e
+    go : (t : Bool) → (if t then some f otherwise none) ≡ some e → some f ≡ some e
     go true h = h
     go false h = cc
 

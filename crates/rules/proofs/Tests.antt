@@ -1,14 +1,14 @@
 -- Cases of a test, and Boolean tests taken apart.
 use mathlib.Core.Path.{◌≡◌, refl, sym, ◌∙◌}
 use mathlib.Core.Bool.{Bool, true, false, not, ◌&&◌, ◌||◌, true≢false}
-use Rattle.rules.specs.Base.{if◌then◌else◌}
+use Rattle.rules.specs.Base.{if◌then◌otherwise◌}
 
 -- What holds of both branches, each under its test, holds of the choice. Keep P shut.
-pub by_test {ℓ κ} : {A : Type ℓ} (P : A → Type κ) {b : Bool} {x y : A} → (b ≡ true → P x) → (b ≡ false → P y) → P (if b then x else y)
-unfolding if◌then◌else◌
+pub by_test {ℓ κ} : {A : Type ℓ} (P : A → Type κ) {b : Bool} {x y : A} → (b ≡ true → P x) → (b ≡ false → P y) → P (if b then x otherwise y)
+unfolding if◌then◌otherwise◌
 by_test P {b} {x} {y} f g = go b refl
   where
-    go : (t : Bool) → b ≡ t → P (if t then x else y)
+    go : (t : Bool) → b ≡ t → P (if t then x otherwise y)
     go true e = f e
     go false e = g e
 

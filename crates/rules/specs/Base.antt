@@ -1,10 +1,10 @@
 -- A choice by a test, a value that may be missing, and lists. Nothing here is about rehearsals.
 use Rattle.std.specs.Prelude.{Bool, true, false, ◌&&◌, ◌||◌, List, [], ◌∷◌, ℕ, zero, suc, ◌+◌, eqb}
 
-infixr 20 if◌then◌else◌
-unfoldable pub if◌then◌else◌ {ℓ} : {A : Type ℓ} → Bool → A → A → A
-if true then a else b = a
-if false then a else b = b
+infixr 20 if◌then◌otherwise◌
+unfoldable pub if◌then◌otherwise◌ {ℓ} : {A : Type ℓ} → Bool → A → A → A
+if true then a otherwise b = a
+if false then a otherwise b = b
 
 pub data Maybe (A : Type 0) : Type 0 where
   none : Maybe A
@@ -48,7 +48,7 @@ sum (x ∷ xs) = x + sum xs
 -- How many elements a test holds of.
 unfoldable pub count : {A : Type 0} → (A → Bool) → List A → ℕ
 count f [] = 0
-count f (x ∷ xs) = (if f x then 1 else 0) + count f xs
+count f (x ∷ xs) = (if f x then 1 otherwise 0) + count f xs
 
 -- Each element comes before the next.
 unfoldable pub rising : {A : Type 0} → (A → A → Bool) → List A → Bool

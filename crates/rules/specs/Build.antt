@@ -1,6 +1,6 @@
 -- Build: document 01, "Calls and what they turn away", rows 1 to 10, and A.4 of document 02: a lookahead for each edge, and 40.
 use Rattle.std.specs.Prelude.{Bool, true, false, not, ◌||◌, List, [], ◌∷◌, ◌++◌, map, ℕ, ◌+◌, ◌^◌, leb, ltb, eqb, length, take, drop}
-use Rattle.rules.specs.Base.{if◌then◌else◌, Maybe, none, some, up_to, any, any_of, member, sum, count, rising}
+use Rattle.rules.specs.Base.{if◌then◌otherwise◌, Maybe, none, some, up_to, any, any_of, member, sum, count, rising}
 use Rattle.rules.specs.State.{Edge, Counters, State, unset, zeros, max_processes, max_edges}
 use Rattle.rules.specs.Answers
 use Rattle.rules.specs.Answers.{Answer, Accepted, Refused}
@@ -40,7 +40,7 @@ least_lookahead L (l ∷ ls) = least l ls
 -- 4: "64-bit mask of missing ids": 2^p for each p below n that is not among the ids.
 unfoldable pub missing : List ℕ → List ℕ → ℕ
 missing ids [] = 0
-missing ids (p ∷ ps) = (if member p ids then 0 else 2 ^ p) + missing ids ps
+missing ids (p ∷ ps) = (if member p ids then 0 otherwise 2 ^ p) + missing ids ps
 
 -- 4: "how many unexpected": the ids that are not below n.
 unfoldable pub unexpected : ℕ → List ℕ → ℕ
@@ -60,7 +60,7 @@ malformed_rows a =
 -- 6: the least of the processes ps that has no row.
 unfoldable pub least_without_row : List ℕ → List ℕ → ℕ
 least_without_row sources [] = 0
-least_without_row sources (p ∷ ps) = if member p sources then least_without_row sources ps else p
+least_without_row sources (p ∷ ps) = if member p sources then least_without_row sources ps otherwise p
 
 -- "for each destination in turn 8, 9, 10", and "40 an edge lookahead of 0, after 10 for that edge": those of the source p, after the destinations `seen` of its row.
 unfoldable pub destination_rows : ℕ → ℕ → List ℕ → List Target → List Row

@@ -1,6 +1,6 @@
 -- Hand back: document 01, "Step and hand back", rows 11, 12, 25, 26, then 27 to 33, 19, 18, 24.
 use Rattle.std.specs.Prelude.{Bool, false, not, ◌&&◌, ◌||◌, List, [], ◌∷◌, ◌++◌, map, ℕ, ◌+◌, ◌^◌, ◌/◌, ◌%◌, max, leb, ltb, eqb, length, get_or}
-use Rattle.rules.specs.Base.{if◌then◌else◌, up_to, any, any_of, count, non_empty}
+use Rattle.rules.specs.Base.{if◌then◌otherwise◌, up_to, any, any_of, count, non_empty}
 use Rattle.rules.specs.State.{Message, Event, Stored, unset, stored, State, Counters, with_handled, closed, poison, saturating_add, max_tick, max_count, max_processes, max_pending, max_payload}
 use Rattle.rules.specs.Answers
 use Rattle.rules.specs.Answers.{Refusal, Committed, Refused}
@@ -39,7 +39,7 @@ malformed batch mask xs =
 
 -- "The minimum tick is the event's tick for an emission to oneself, else that tick + L." A.4: L is that of the edge.
 unfoldable pub minimum : ℕ → ℕ → ℕ → Message → ℕ
-minimum L p t m = if eqb m.destination p then t else t + L
+minimum L p t m = if eqb m.destination p then t otherwise t + L
 
 -- 28 to 32 of the emission m of the process p, whose event has tick t, in a runtime of n processes with the routes given and L, the lookahead of the edge that m goes along. To oneself the minimum is a tick, so 31 does not hold.
 abbrev pub message_rows : ℕ → (ℕ → ℕ → Bool) → ℕ → ℕ → ℕ → Message → List Row
@@ -60,7 +60,7 @@ unfoldable pub emission_rows : State → Event → List Emission → List Row
 emission_rows s e [] = []
 emission_rows s e (x ∷ xs) =
     if eqb x.emitter e.destination then (message_rows s.n (route s.edges) (lookahead_along s.edges x.emitter x.message.destination) x.emitter e.tick x.message ++ (straggler_row s x.message ∷ emission_rows s e xs))
-    else emission_rows s e xs
+    otherwise emission_rows s e xs
 
 -- "process by process in id order 27 and, for its emissions in turn, 28 to 33 (so an earlier process's bad emission comes before a later one's failure)"
 unfoldable pub process_rows : State → ℕ → List Emission → List Event → List Row
@@ -104,7 +104,7 @@ commit s c horizon budget xs =
     let t = handled s xs in
     let u = refreshed t horizon t.edges t.inbound t.horizons in
     if spent t horizon budget then out (Refused (Answers.EventBudgetExceeded budget)) (closed t) (count_round c s.batch xs)
-    else out (Committed u.gvt) u (count_round c s.batch xs)
+    otherwise out (Committed u.gvt) u (count_round c s.batch xs)
 
 -- A batch has an open run, and that a horizon: 11 was checked.
 unfoldable pub commit_at : State → Counters → Stored → List Emission → Out

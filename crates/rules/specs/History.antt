@@ -1,6 +1,6 @@
 -- What demand 3 counts, on the list of calls and answers: document 01, "Demand 3 is one statement about the list of calls as a whole".
 use Rattle.std.specs.Prelude.{Bool, true, false, not, ◌&&◌, ◌||◌, List, [], ◌∷◌, ◌++◌, ℕ, suc, ◌+◌, max, eqb, length}
-use Rattle.rules.specs.Base.{if◌then◌else◌, count}
+use Rattle.rules.specs.Base.{if◌then◌otherwise◌, count}
 use Rattle.rules.specs.State.{Event, State, Counters, zeros}
 use Rattle.rules.specs.Answers.{Answer, Accepted, Batch, Advanced, Finished, Committed, Read, Planned, Refused, number}
 use Rattle.rules.specs.Rows.{Out}
@@ -141,12 +141,12 @@ initials es = count adds es
 -- "H is one above the horizon of the last such begin"; 0 where there is none.
 unfoldable pub H : List Entry → ℕ
 H [] = 0
-H (e ∷ es) = if begins e then suc (horizon e.call) else H es
+H (e ∷ es) = if begins e then suc (horizon e.call) otherwise H es
 
 -- "In hand are the events of the last batch as long as every hand back since got 26, else 0."
 unfoldable pub in_hand : List Entry → List Event
 in_hand [] = []
-in_hand (e ∷ es) = if is_batch e.answer then events e.answer else if is_hand_back e.call && not (eqb (number e.answer) 26) then [] else in_hand es
+in_hand (e ∷ es) = if is_batch e.answer then events e.answer otherwise if is_hand_back e.call && not (eqb (number e.answer) 26) then [] otherwise in_hand es
 
 -- A "hand back [that] answered Committed or 24"
 abbrev pub commits : Entry → Bool
@@ -155,16 +155,16 @@ commits e = is_hand_back e.call && (is_committed e.answer || eqb (number e.answe
 -- "Handled are the events of the batches whose hand back answered Committed or 24"
 unfoldable pub handled : List Entry → ℕ
 handled [] = 0
-handled (e ∷ es) = (if commits e then length (in_hand es) else 0) + handled es
+handled (e ∷ es) = (if commits e then length (in_hand es) otherwise 0) + handled es
 
 -- "emitted the emissions in those replies"; those among them that are remote.
 unfoldable pub emitted : List Entry → ℕ
 emitted [] = 0
-emitted (e ∷ es) = (if commits e then length (emissions e.call) else 0) + emitted es
+emitted (e ∷ es) = (if commits e then length (emissions e.call) otherwise 0) + emitted es
 
 unfoldable pub remote : List Entry → ℕ
 remote [] = 0
-remote (e ∷ es) = (if commits e then count is_remote (emissions e.call) else 0) + remote es
+remote (e ∷ es) = (if commits e then count is_remote (emissions e.call) otherwise 0) + remote es
 
 -- "rounds those hand backs plus the Advanced answers"
 unfoldable pub rounds : List Entry → ℕ
@@ -173,22 +173,22 @@ rounds es = count commits es + count (λ e. is_advanced e.answer) es
 -- "null messages the edge bounds raised for these Advanced answers"
 unfoldable pub null_message_count : List Entry → ℕ
 null_message_count [] = 0
-null_message_count (e ∷ es) = (if is_advanced e.answer then e.raises else 0) + null_message_count es
+null_message_count (e ∷ es) = (if is_advanced e.answer then e.raises otherwise 0) + null_message_count es
 
 -- "the worker count is the largest batch so far": of those handled.
 unfoldable pub worker_count_of : List Entry → ℕ
 worker_count_of [] = 0
-worker_count_of (e ∷ es) = if commits e then max (worker_count_of es) (length (in_hand es)) else worker_count_of es
+worker_count_of (e ∷ es) = if commits e then max (worker_count_of es) (length (in_hand es)) otherwise worker_count_of es
 
 -- The events handled since the last begin that was not refused: "events handed back in this run".
 unfoldable pub used : List Entry → ℕ
 used [] = 0
-used (e ∷ es) = if begins e then 0 else (if commits e then length (in_hand es) else 0) + used es
+used (e ∷ es) = if begins e then 0 otherwise (if commits e then length (in_hand es) otherwise 0) + used es
 
 -- "A process was handed its events in the batches answered, in that order, a batch lost later among them".
 unfoldable pub events_at : ℕ → List Event → List Event
 events_at p [] = []
-events_at p (e ∷ es) = if eqb e.destination p then e ∷ events_at p es else events_at p es
+events_at p (e ∷ es) = if eqb e.destination p then e ∷ events_at p es otherwise events_at p es
 
 unfoldable pub handed_to : ℕ → List Entry → List Event
 handed_to p [] = []

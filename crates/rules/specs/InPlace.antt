@@ -1,7 +1,7 @@
 -- Request A.3 of document 02: "it shall keep no list of new bounds beside the old ones and write each bound when it is found. Frontiers before the advance still decide".
 -- The advance of specs/Step.antt raises all bounds at once, as document 01 has it. This one goes edge by edge on the state itself, and the code is held to it; that the two are one is `InPlaceProved`, at the end.
 use Rattle.std.specs.Prelude.{◌≡◌, false, ◌||◌, List, [], ◌∷◌, ℕ, zero, suc, ltb, length}
-use Rattle.rules.specs.Base.{if◌then◌else◌, Maybe, none, some, up_to}
+use Rattle.rules.specs.Base.{if◌then◌otherwise◌, Maybe, none, some, up_to}
 use Rattle.rules.specs.State.{Edge, with_bound, State, Counters, with_bounds}
 use Rattle.rules.specs.Rows.{Out}
 use Rattle.rules.specs.Frontiers.{inbound_of}
@@ -36,7 +36,7 @@ raise_bound H r i none = r
 raise_bound H r i (some e) =
     let b = new_bound r.now H e in
     if ltb e.bound b then record { now = with_edges r.now (set_bound r.now.edges i b); raised = suc r.raised }
-    else r
+    otherwise r
 
 unfoldable pub raise_bound_at : ℕ → Raising → ℕ → Raising
 raise_bound_at H r i = raise_bound H r i (nth_edge r.now.edges i)

@@ -1,6 +1,6 @@
 -- Step: document 01, "Step and hand back", rows 11, 12, 23, 24.
 use Rattle.std.specs.Prelude.{Bool, false, not, ◌&&◌, ◌||◌, List, [], ◌∷◌, ℕ, zero, suc, ◌+◌, ◌-◌, min, max, leb, ltb}
-use Rattle.rules.specs.Base.{if◌then◌else◌, Maybe, none, some, up_to, every, non_empty}
+use Rattle.rules.specs.Base.{if◌then◌otherwise◌, Maybe, none, some, up_to, every, non_empty}
 use Rattle.rules.specs.State.{Event, Edge, with_bound, Stored, unset, stored, State, Counters, with_batch, closed, poison, saturating_add, max_tick}
 use Rattle.rules.specs.Answers
 use Rattle.rules.specs.Answers.{Batch, Advanced, Finished, Refused}
@@ -34,7 +34,7 @@ input_frontier s H p = min (safe s.inbound H p) (first_tick s.pending p H)
 unfoldable pub new_bound : State → ℕ → Edge → ℕ
 new_bound s H e =
     let t = input_frontier s H e.source + e.lookahead in
-    if ltb max_tick t then H else min H t
+    if ltb max_tick t then H otherwise min H t
 
 -- "All read safe as it was before."
 unfoldable pub raised_edges : State → ℕ → List Edge → List Edge
@@ -45,7 +45,7 @@ raised_edges s H (e ∷ es) = with_bound e (max e.bound (new_bound s H e)) ∷ r
 unfoldable pub count_raised : List Edge → List Edge → ℕ
 count_raised [] fs = 0
 count_raised (e ∷ es) [] = 0
-count_raised (e ∷ es) (f ∷ fs) = (if ltb e.bound f.bound then 1 else 0) + count_raised es fs
+count_raised (e ∷ es) (f ∷ fs) = (if ltb e.bound f.bound then 1 otherwise 0) + count_raised es fs
 
 -- Whether a local horizon rose.
 unfoldable pub any_raised : List ℕ → List ℕ → Bool
@@ -87,8 +87,8 @@ pub record Progress : Type 0 where
 abbrev pub answer_advance : Progress → Counters → ℕ → Out
 answer_advance a c horizon =
     if a.rose then out (Advanced a.state.gvt) a.state (count_advance c a.raised)
-    else if complete a.state (suc horizon) then out (Finished a.state.gvt) (closed a.state) c
-    else out (Refused Answers.Poisoned) (poison a.state) c
+    otherwise if complete a.state (suc horizon) then out (Finished a.state.gvt) (closed a.state) c
+    otherwise out (Refused Answers.Poisoned) (poison a.state) c
 
 -- All bounds are raised at once. The code does it edge by edge, which is the same (specs/InPlace.antt).
 abbrev pub advanced_at_once : State → ℕ → Progress
@@ -108,14 +108,14 @@ spent s horizon budget = leb budget s.used && any_eligible s.inbound (suc horizo
 abbrev pub unless_spent : State → Counters → ℕ → ℕ → Out → Out
 unless_spent s c horizon budget a =
     if spent s horizon budget then out (Refused (Answers.EventBudgetExceeded budget)) (closed s) c
-    else a
+    otherwise a
 
 -- "If any was taken, answer the batch."
 unfoldable pub step_run : State → Counters → ℕ → ℕ → Out
 step_run s c horizon budget =
     let t = taken_at s horizon budget in
     if non_empty t.events then out (Batch t.events s.gvt) (with_batch s t.events t.left) c
-    else unless_spent s c horizon budget (advance s c horizon)
+    otherwise unless_spent s c horizon budget (advance s c horizon)
 
 -- A run that is open has a horizon: 11 was checked.
 unfoldable pub step_at : State → Counters → Stored → Out

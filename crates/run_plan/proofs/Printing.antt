@@ -8,7 +8,7 @@ use lib.Dec.{leb}
 use lib.ListN.{length, get_or, take, replicate, length-append, get_or-eq_default}
 use lib.Seq.{take_at}
 use borrow.Author.Tests.{leb-true, leb-false}
-use Rattle.rules.specs.Base.{if◌then◌else◌, Maybe, none, some}
+use Rattle.rules.specs.Base.{if◌then◌otherwise◌, Maybe, none, some}
 use Rattle.rules.specs.State.{State}
 use Rattle.rules.proofs.Tests.{by_bool}
 use Rattle.plan_file.specs.Plan.{Plan}
@@ -39,11 +39,11 @@ unfolding end_line end_front
 line_ends k g r n = simp append_assoc
 
 shown_ends : (p : Plan) (k : ℕ) (m : Maybe State) → Ended (shown (once_built p k m))
-unfolding once_built shown listing if◌then◌else◌
+unfolding once_built shown listing if◌then◌otherwise◌
 shown_ends p k none = subst Ended (sym (line_ends k 0 0 0)) (fed (end_front k 0 0 0) refl)
 shown_ends p k (some s) = go (too_long p)
   where
-    go : (t : Bool) → Ended (shown (if t then refused 39 else listed (handled_lines (ran p).entries ++ end_line (last_number (ran p).entries) (ran p).now.gvt (ran p).counters.rounds (ran p).counters.null_messages)))
+    go : (t : Bool) → Ended (shown (if t then refused 39 otherwise listed (handled_lines (ran p).entries ++ end_line (last_number (ran p).entries) (ran p).now.gvt (ran p).counters.rounds (ran p).counters.null_messages)))
     go true = empty refl
     go false = subst (λ (l : List ℕ). Ended (handled_lines (ran p).entries ++ l)) (sym (line_ends _ _ _ _)) (ended_append (handled_lines (ran p).entries) (end_front _ _ _ _))
 

@@ -7,7 +7,7 @@ use native.Mathlib.Omega.{arith}
 use lib.ListN.{length}
 use Rattle.types.specs.declared.SimTime.{SimTime}
 use Rattle.types.specs.Value.{ticks_of}
-use Rattle.rules.specs.Base.{if◌then◌else◌}
+use Rattle.rules.specs.Base.{if◌then◌otherwise◌}
 use Rattle.rules.specs.State as R
 use Rattle.rules.specs.State.{State}
 use Rattle.rules.specs.Answers as A
@@ -39,7 +39,7 @@ use Rattle.runtime.specs.Executes.{Executes}
 
 -- Row 11 comes first in every call.
 row_11 : (s : State) (c : R.Counters) (k : Call) → foreign s ≡ true → rule s c k ≡ refuse s c A.ForeignState
-unfolding rule add_initial begin step hand_back unless if◌then◌else◌
+unfolding rule add_initial begin step hand_back unless if◌then◌otherwise◌
 row_11 s c (AddInitial m) f = rw f
 row_11 s c (Begin h b) f = rw f
 row_11 s c Step f = rw f

@@ -13,7 +13,7 @@ use Rattle.records.specs.declared.Record.{Record}
 use Rattle.records.specs.Records.{event_at, edges_of, events_of}
 use Rattle.records.specs.Queue.{CanInsert, Inserted}
 use Rattle.records.proofs.Stored.{length_payload}
-use Rattle.rules.specs.Base.{if◌then◌else◌}
+use Rattle.rules.specs.Base.{if◌then◌otherwise◌}
 use Rattle.rules.specs.State as R
 use Rattle.rules.specs.State.{State, Counters, numbered, with_pending, max_count, max_pending, max_payload}
 use Rattle.rules.specs.Answers as A
@@ -37,45 +37,45 @@ use Rattle.schedule_initial.specs.AddsInitial.{record_of, CanEnqueue, InitialAll
 module _ (s : State) (c : Counters) (m : R.Message) where
   module _ (f : foreign s ≡ false) where
     row_12 : s.poisoned ≡ true → add_initial s c m ≡ refuse s c A.Poisoned
-    unfolding add_initial unless if◌then◌else◌
+    unfolding add_initial unless if◌then◌otherwise◌
     row_12 p = rw (f, p)
 
     module _ (p : s.poisoned ≡ false) where
       row-13 : s.initial ≡ false → add_initial s c m ≡ refuse s c A.InitialEventsAlreadyClosed
-      unfolding add_initial unless if◌then◌else◌
+      unfolding add_initial unless if◌then◌otherwise◌
       row-13 o = rw (f, p, o)
 
       module _ (o : s.initial ≡ true) where
         row-14 : leb s.n m.source ≡ true → add_initial s c m ≡ refuse s c (A.UnknownInitialSource m.source)
-        unfolding add_initial unless if◌then◌else◌
+        unfolding add_initial unless if◌then◌otherwise◌
         row-14 a = rw (f, p, o, a)
 
         module _ (a : leb s.n m.source ≡ false) where
           row-15 : leb s.n m.destination ≡ true → add_initial s c m ≡ refuse s c (A.UnknownInitialDestination m.destination)
-          unfolding add_initial unless if◌then◌else◌
+          unfolding add_initial unless if◌then◌otherwise◌
           row-15 b = rw (f, p, o, a, b)
 
           row-16 : leb s.n m.destination ≡ false → route s.edges m.source m.destination ≡ false → add_initial s c m ≡ refuse s c (A.InitialRouteMissing m.source m.destination)
-          unfolding add_initial unless if◌then◌else◌
+          unfolding add_initial unless if◌then◌otherwise◌
           row-16 b r = rw (f, p, o, a, b, r)
 
   module _ (i : InitialAllowed s m) where
     row_17 : ltb max_payload (length m.payload) ≡ true → add_initial s c m ≡ refuse s c (A.PayloadTooLong (length m.payload))
-    unfolding add_initial unless if◌then◌else◌
+    unfolding add_initial unless if◌then◌otherwise◌
     row_17 l = rw (i.passes, i.healthy, i.opened, i.source, i.destination, i.routed, l)
 
     module _ (l : ltb max_payload (length m.payload) ≡ false) where
       row_18 : leb max_pending (length s.pending) ≡ true → add_initial s c m ≡ refuse s c A.QueueFull
-      unfolding add_initial unless if◌then◌else◌
+      unfolding add_initial unless if◌then◌otherwise◌
       row_18 q = rw (i.passes, i.healthy, i.opened, i.source, i.destination, i.routed, l, q)
 
       module _ (q : leb max_pending (length s.pending) ≡ false) where
         row_19 : ltb max_count (s.next + 1) ≡ true → add_initial s c m ≡ refuse s c A.EventSequenceOverflow
-        unfolding add_initial unless if◌then◌else◌
+        unfolding add_initial unless if◌then◌otherwise◌
         row_19 k = rw (i.passes, i.healthy, i.opened, i.source, i.destination, i.routed, l, q, k)
 
         accepted : ltb max_count (s.next + 1) ≡ false → add_initial s c m ≡ out A.Accepted (with_pending s (insert (numbered m s.next) s.pending) (suc s.next)) c
-        unfolding add_initial unless if◌then◌else◌
+        unfolding add_initial unless if◌then◌otherwise◌
         accepted k = rw (i.passes, i.healthy, i.opened, i.source, i.destination, i.routed, l, q, k)
 
 pub ready : (h : Header) (Q : List ℕ) (m : Message) → CanEnqueue h Q → CanInsert h.pending Q (record_of m h.next)

@@ -6,7 +6,7 @@ use Prim.Native.Nat.{ℕ, suc}
 use Rattle.types.specs.declared.SimTime.{SimTime}
 use Rattle.types.specs.Value.{ticks_of}
 use Rattle.records.specs.Records.{events_of}
-use Rattle.rules.specs.Base.{if◌then◌else◌, non_empty}
+use Rattle.rules.specs.Base.{if◌then◌otherwise◌, non_empty}
 use Rattle.rules.specs.State as R
 use Rattle.rules.specs.State.{State, closed}
 use Rattle.rules.specs.Answers as A
@@ -29,16 +29,16 @@ use Rattle.step.specs.WithoutBatch.{NothingTaken, without_batch, AdvancesOrRefus
 
 -- 24, or the advance.
 without_spent : (s : State) (c : R.Counters) (h b : ℕ) → spent s h b ≡ true → without_batch s c h b ≡ out (A.Refused (A.EventBudgetExceeded b)) (closed s) c
-unfolding without_batch if◌then◌else◌
+unfolding without_batch if◌then◌otherwise◌
 without_spent s c h b e = rw e
 
 without_advance : (s : State) (c : R.Counters) (h b : ℕ) → spent s h b ≡ false → without_batch s c h b ≡ advance_in_place s c h
-unfolding without_batch if◌then◌else◌
+unfolding without_batch if◌then◌otherwise◌
 without_advance s c h b e = rw e
 
 -- Where nothing was taken this is what the rules have the step give: bounds that are written one by one are those that rise all at once (A.3).
 pub without_batch_holds : (s : State) (c : R.Counters) (h b : ℕ) → non_empty (taken_at s h b).events ≡ false → without_batch s c h b ≡ step_run s c h b
-unfolding without_batch step_run if◌then◌else◌
+unfolding without_batch step_run if◌then◌otherwise◌
 without_batch_holds s c h b t = rw (t, in_place.same s c h)
 
 module _ (h : Header) (c : Counters) (E Q Z F : List ℕ) (top : SimTime) (u : Bool)

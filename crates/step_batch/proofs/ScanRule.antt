@@ -6,7 +6,7 @@ use Prim.Native.Nat.{ℕ, zero, suc, ◌+◌, ◌-◌, ◌≤◌, ◌<◌, max}
 use native.Mathlib.Omega.{arith}
 use lib.Dec.{leb, ltb, eqb}
 use borrow.Author.Tests.{eq-eqb, ne_eqb, le-leb, lt-leb, lt-ltb, leb-true, ltb-true}
-use Rattle.rules.specs.Base.{if◌then◌else◌, Maybe, none, some, up_from}
+use Rattle.rules.specs.Base.{if◌then◌otherwise◌, Maybe, none, some, up_from}
 use Rattle.rules.specs.State.{Event}
 use Rattle.rules.specs.Pending.{first_of, without_first}
 use Rattle.rules.specs.Frontiers.{safe, below, eligible}
@@ -19,11 +19,11 @@ use Rattle.step_batch.specs.ScanRule.{to_batch, kept_pending, takes, seen_by, sc
 
 -- A turn of the pass.
 pub scan_take : (front : ℕ → ℕ) (room seen : ℕ) (e : Event) (q : List Event) → takes front room seen e ≡ true → scan front room seen (e ∷ q) ≡ to_batch e (scan front (room - 1) (seen_by seen e) q)
-unfolding scan if◌then◌else◌
+unfolding scan if◌then◌otherwise◌
 scan_take front room seen e q t = rw t
 
 pub scan_keep : (front : ℕ → ℕ) (room seen : ℕ) (e : Event) (q : List Event) → takes front room seen e ≡ false → scan front room seen (e ∷ q) ≡ kept_pending e (scan front room (seen_by seen e) q)
-unfolding scan if◌then◌else◌
+unfolding scan if◌then◌otherwise◌
 scan_keep front room seen e q t = rw t
 
 -- What is taken has a process that was not seen, and room
@@ -88,19 +88,19 @@ module _ (inbounds : List ℕ) (H : ℕ) where
 
   -- the first event of p, and the others
   first_here : (e : Event) (q : List Event) (p : ℕ) → eqb e.destination p ≡ true → first_of (e ∷ q) p ≡ some e
-  unfolding first_of if◌then◌else◌
+  unfolding first_of if◌then◌otherwise◌
   first_here e q p t = rw t
 
   first_there : (e : Event) (q : List Event) (p : ℕ) → eqb e.destination p ≡ false → first_of (e ∷ q) p ≡ first_of q p
-  unfolding first_of if◌then◌else◌
+  unfolding first_of if◌then◌otherwise◌
   first_there e q p t = rw t
 
   drop_here : (e : Event) (q : List Event) (p : ℕ) → eqb e.destination p ≡ true → without_first (e ∷ q) p ≡ q
-  unfolding without_first if◌then◌else◌
+  unfolding without_first if◌then◌otherwise◌
   drop_here e q p t = rw t
 
   drop_there : (e : Event) (q : List Event) (p : ℕ) → eqb e.destination p ≡ false → without_first (e ∷ q) p ≡ e ∷ without_first q p
-  unfolding without_first if◌then◌else◌
+  unfolding without_first if◌then◌otherwise◌
   drop_there e q p t = rw t
 
   first_none : (q : List Event) (p : ℕ) → All (λ (f : Event). p < f.destination) q → first_of q p ≡ none
@@ -109,11 +109,11 @@ module _ (inbounds : List ℕ) (H : ℕ) where
   first_none (e ∷ q) p a = first_there e q p (ne_eqb e.destination p (λ x. omega (arith, a.0))) ∙ first_none q p a.1
 
   eligible_yes : (e : Event) (k : ℕ) → ltb e.tick k ≡ true → below k (some e) ≡ some e
-  unfolding below if◌then◌else◌
+  unfolding below if◌then◌otherwise◌
   eligible_yes e k t = rw t
 
   eligible_no : (e : Event) (k : ℕ) → ltb e.tick k ≡ false → below k (some e) ≡ none
-  unfolding below if◌then◌else◌
+  unfolding below if◌then◌otherwise◌
   eligible_no e k t = rw t
 
   batch_is : (i k room : ℕ) (q : List Event) (m : Maybe Event) → below (front i) (first_of q i) ≡ m → rule i (suc k) room q ≡ take_eligible_at m i q room (rule (suc i) k)

@@ -1,6 +1,6 @@
 -- The batch in one pass over pending events that stand by destination: what each turn of the pass decides.
 use Rattle.std.specs.Prelude.{Bool, ◌&&◌, List, [], ◌∷◌, ℕ, ◌+◌, ◌-◌, max, leb, ltb}
-use Rattle.rules.specs.Base.{if◌then◌else◌}
+use Rattle.rules.specs.Base.{if◌then◌otherwise◌}
 use Rattle.rules.specs.State.{Event}
 use Rattle.rules.specs.Step.{BatchTaken}
 
@@ -20,4 +20,4 @@ seen_by seen e = max seen (e.destination + 1)
 
 unfoldable pub scan : (ℕ → ℕ) → ℕ → ℕ → List Event → BatchTaken
 scan safe room seen [] = record { events = []; left = [] }
-scan safe room seen (e ∷ q) = if takes safe room seen e then to_batch e (scan safe (room - 1) (seen_by seen e) q) else kept_pending e (scan safe room (seen_by seen e) q)
+scan safe room seen (e ∷ q) = if takes safe room seen e then to_batch e (scan safe (room - 1) (seen_by seen e) q) otherwise kept_pending e (scan safe room (seen_by seen e) q)
