@@ -3,8 +3,6 @@ use mathlib.Core.Path.{◌≡◌, refl, sym, ap, ◌∙◌}
 use mathlib.Core.List.{List, []}
 use Prim.Native.Nat.{ℕ}
 use lib.ListN.{length}
-use types.Run.{OneOf}
-use denote.Enum.Declared.{tag_of}
 use Rattle.words.specs.Words.{zeroes}
 use Rattle.rules.specs.State as R
 use Rattle.rules.specs.Answers.{Accepted}
@@ -21,7 +19,6 @@ use Rattle.build.specs.declared.BuildAnswer.{BuildAnswer}
 use Rattle.build.specs.declared.BuildAnswer.TheVariants as P
 use Rattle.build.specs.Checks.{answer_of, ChecksBuild}
 use Rattle.build.specs.Initialized.{CanInitialize, Initializes, empty_header}
-use Rattle.build.specs.contracts.BuildAnswer.{the_type}
 use Rattle.build.proofs.AnswerRows.{never}
 use Rattle.build.proofs.Numbering.{refusing}
 use Rattle.build.proofs.Initializing.{can_initialize}

@@ -2,7 +2,6 @@
 use Rattle.std.specs.Prelude.{◌≡◌, List, ℕ, length}
 use Rattle.rules.specs.History.{History, run_calls}
 use Rattle.state.specs.declared.Header.{Header}
-use Rattle.state.specs.declared.Counters.{Counters}
 use Rattle.state.specs.View.{view, counters_of, zero_counters}
 use Rattle.state.specs.ValidArrays.{ValidArrays}
 use Rattle.call_list.specs.declared.RunResult.{RunResult}

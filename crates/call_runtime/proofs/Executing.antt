@@ -8,7 +8,6 @@ use Rattle.types.specs.declared.SimTime.{SimTime}
 use Rattle.types.specs.Value.{ticks_of}
 use Rattle.words.specs.Words.{tick_at}
 use Rattle.reply_words.specs.Emissions.{emissions_of}
-use Rattle.rules.specs.State as R
 use Rattle.rules.specs.HandBack.{Emission}
 use Rattle.rules.specs.Calls.{Call, AddInitial, Begin, Step, HandBack}
 use Rattle.state.specs.declared.Runtime.{Runtime}

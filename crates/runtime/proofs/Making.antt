@@ -2,8 +2,6 @@
 use mathlib.Core.Path.{◌≡◌, refl, sym, ap, ◌∙◌}
 use mathlib.Core.List.{List}
 use Prim.Native.Nat.{ℕ}
-use types.Run.{OneOf}
-use denote.Enum.Declared.{tag_of}
 use Rattle.words.specs.Words.{zeroes}
 use Rattle.rules.specs.Answers.{Accepted}
 use Rattle.rules.specs.Build.{Setup, setup, build}
@@ -16,7 +14,6 @@ use Rattle.build.specs.declared.BuildAnswer.{BuildAnswer}
 use Rattle.build.specs.declared.BuildAnswer.TheVariants as P
 use Rattle.build.specs.Checks.{answer_of, ChecksBuild}
 use Rattle.build.specs.Initialized.{CanInitialize, Initializes, empty_header, empty_runtime}
-use Rattle.build.specs.contracts.BuildAnswer.{the_type}
 use Rattle.build.proofs.AnswerRows.{never, counters_accepted, counters_refused}
 use Rattle.build.proofs.Initializing.{can_initialize}
 use Rattle.build.proofs.Numbering.{refusing, numbered, valued}

@@ -1,4 +1,3 @@
-use borrow.Author.Rules.{rules}
 use Rattle.call_list.proofs.execute_add_or_begin.Goals as goal
 
 pub returns : goal.returns

@@ -1,4 +1,3 @@
-use borrow.Author.Rules.{rules}
 use Rattle.call_list.proofs.Rehearsing.{startable, rehearsed, turned_away_holds}
 use Rattle.call_list.proofs.rehearse.Goals as goal
 

@@ -1,8 +1,6 @@
-use borrow.Author.Rules.{rules}
 use Prim.Native.Nat.{◌-◌}
-use native.Mathlib.Omega.{arith}
 use lib.ListN.{length}
-use Rattle.call_list.proofs.Running.{Running, running_start, running_more, running_end, behind}
+use Rattle.call_list.proofs.Running.{Running}
 use Rattle.call_list.proofs.run_calls.Given as goal
 
 abbrev pub invariant-loop-count : goal.invariant-loop-count

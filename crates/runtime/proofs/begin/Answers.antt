@@ -1,4 +1,3 @@
-use borrow.Author.Rules.{rules}
 use Rattle.foreign.proofs.Grouped.{foreign_is}
 use Rattle.runtime.proofs.Executing.{carries_begin}
 use Rattle.runtime.proofs.begin.Goals as goal

@@ -1,4 +1,3 @@
-use borrow.Author.Rules.{rules}
 use Rattle.runtime.proofs.Making.{can_make, accepted, refused}
 use Rattle.runtime.proofs.build.Goals as goal
 

@@ -1,4 +1,3 @@
-use borrow.Author.Rules.{rules}
 use Rattle.runtime.proofs.Making.{empty}
 use Rattle.runtime.proofs.empty_runtime.Goals as goal
 

@@ -1,4 +1,3 @@
-use borrow.Author.Rules.{rules}
 use Rattle.runtime.proofs.Making.{made}
 use Rattle.runtime.proofs.make_runtime.Goals as goal
 
