@@ -13,12 +13,14 @@ use Rattle.plan_round.specs.Reached.{contents_of_file, plan_of}
 use Rattle.plan_rehearsal.specs.Rehearses.{Checked, Rehearses}
 use Rattle.dorrezubi.specs.Exports.{Exports}
 
+-- 37 and 38 leave the slice as it was: of the number alone, so that a search finds it.
+pub refused_is_unread : (s old : List ℕ) (n : ℕ) → n ≡ number_of (decode s) → 0 < n → exported s old ≡ record { number = n; slice = old }
+refused_is_unread s old n e l = exported_unread s old n (refused_of s (λ z. absurd (omega arith)) ∙ ap Answer.refused (sym e))
+
 module _ (s : List ℕ) (r : Parts) (i : Checks s r) where
   -- 37 and 38 leave the slice as it was.
   pub unread : (old : List ℕ) → 0 < r.number → Exports s old old r.number
-  unread old l =
-      let n : number_of (decode s) ≡ r.number = sym i.number in
-      sym (exported_unread s old r.number (refused_of s (λ z. absurd (omega arith)) ∙ ap Answer.refused n))
+  unread old l = sym (refused_is_unread s old r.number i.number l)
 
   module _ (z : r.number ≤ 0) where
     content : Contents s

@@ -42,6 +42,7 @@ fn refuse(number: u64, listing: &mut [u8]) -> u64
 
 // 1, 2, and 5 for more than 512 edges: what build refuses before it looks at rows. The arrays below have
 // room for all that passes.
+#[tactic(auto, using(crate::proofs::Rehearsing::early_1, crate::proofs::Rehearsing::early_2, crate::proofs::Rehearsing::early_5, crate::proofs::Rehearsing::early_0))]
 fn early_number(n: u64, lookahead: SimDuration, edges: usize) -> u64
     ensures { result ≡ early_number n (duration_of lookahead) edges }
 {

@@ -33,9 +33,9 @@ read-requires c =
 pub returns-then-read-ne0 : goal.returns-then-read-ne0
 returns-then-read-ne0 c =
     let s = c.args.s.now in
-    set_padding s _ (omega arith) (whole_of (stream s) _ c.find_lists.ensures _ _ c.in-Whole.is) c.if-left-ge8.false _ c.read.ensures c.if-read-ne0.true c.refused-then-read-ne0.ensures
+    set_padding s _ (omega arith) (whole_of (stream s) _ c.find_lists.ensures _ _ c.in-Whole.is) (omega arith) _ c.read.ensures c.if-read-ne0.true c.refused-then-read-ne0.ensures
 
 pub returns : goal.returns
 returns c =
     let s = c.args.s.now in
-    passes s c.in-Whole.parts (omega arith) (whole_of (stream s) _ c.find_lists.ensures _ _ c.in-Whole.is) c.if-left-ge8.false _ c.read.ensures c.if-read-ne0.false
+    passes s c.in-Whole.parts (omega arith) (whole_of (stream s) _ c.find_lists.ensures _ _ c.in-Whole.is) (omega arith) _ c.read.ensures c.if-read-ne0.false
