@@ -1,7 +1,6 @@
 -- A read by its tag.
 use mathlib.Core.Path.{◌≡◌, sym, subst}
 use Prim.Native.Nat.{ℕ}
-use lib.Dec.{eqb}
 use borrow.Author.Tests.{ne_eqb}
 use Rattle.rules.specs.Base.{if◌then◌otherwise◌}
 use Rattle.rules.specs.State as R

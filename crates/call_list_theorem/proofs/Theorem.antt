@@ -7,7 +7,7 @@ use prog.Memory.{Memory}
 use prog.Routine.{Routine}
 use types.Logic.{Logic}
 use contract.Monad.{Fun, fact, fact_i, fact_use, conj, conj_l, conj_r}
-use denote.Ref.{Bor}
+use denote.Ref.{Bor, MutBor}
 use Rattle.state.specs.declared.Runtime.{Runtime}
 use Rattle.state.specs.declared.Counters.{Counters}
 use Rattle.rules.specs.Rows.{Out}
@@ -74,7 +74,7 @@ read_after a r ls p = record {
 
 -- The same of `host`: what its contracts ensure are facts.
 module _ {M : Type 1} {𝓤 : Ura M} (𝓛 : Logic 𝓤) (mem : Memory → SProp 𝓤) (run : Routine → Fun 𝓤) where
-  executes : (k : HostCall) (s : Runtime) (c : Bor Counters) (r : HostCallResult) (d : Bor Counters) → ent 𝓤 (ensured_by 𝓛 mem run k s c r d) (fact 𝓤 (Executes (Host.call_of k) s c.now r.answer r.state d.now))
+  executes : (k : HostCall) (s : Runtime) (c : MutBor Counters) (r : HostCallResult) (d : MutBor Counters) → ent 𝓤 (ensured_by 𝓛 mem run k s c r d) (fact 𝓤 (Executes (Host.call_of k) s c.now r.answer r.state d.now))
   executes (Host.AddInitial κs m) s c r d = id⊢ 𝓤 _
   executes (Host.Begin κs t b) s c r d = id⊢ 𝓤 _
   executes (Host.Step κs) s c r d = id⊢ 𝓤 _
@@ -142,14 +142,14 @@ program_theorem = record {
   host_earliest_meets = host-earliest-met.met;
   nothing_asked = λ 𝓤 𝓛 mem run. record {
     build = λ κs a g. refl;
-    add_initial_holds = λ κs a g. refl;
+    add_initial = λ κs a g. refl;
     begin = λ κs a g. refl;
     step = λ κs a g. refl;
-    hand_back_holds = λ κs a g. refl;
-    read_gvt_holds = λ κs a g. refl;
-    read_counters_holds = λ κs a g. refl;
-    read_pending_holds = λ κs a g. refl;
-    read_earliest_holds = λ κs a g. refl;
+    hand_back = λ κs a g. refl;
+    read_gvt = λ κs a g. refl;
+    read_counters = λ κs a g. refl;
+    read_pending = λ κs a g. refl;
+    read_earliest = λ κs a g. refl;
     host_build = λ κs a g. refl;
     host_initial = λ κs a g. refl;
     host_begin = λ κs a g. refl;

@@ -7,7 +7,7 @@ use prog.Routine.{Routine}
 use types.Logic.{Logic}
 use contract.Lifetimes.{Lfts}
 use contract.Monad.{Fun, conj}
-use Rattle.std.specs.Borrow.{Bor}
+use Rattle.std.specs.Borrow.{Bor, MutBor}
 use Rattle.types.specs.declared.SimTime.{SimTime}
 use Rattle.types.specs.Value.{ticks_of}
 use Rattle.rules.specs.Calls as R
@@ -18,10 +18,10 @@ use Rattle.state.specs.declared.Counters.{Counters}
 use Rattle.state.specs.declared.Message.{Message}
 use Rattle.state.specs.View.{message_of}
 use Rattle.host.specs.declared.HostCallResult.{HostCallResult}
-use Rattle.host.specs.contracts.add_initial as add_initial_holds
+use Rattle.host.specs.contracts.add_initial as add_initial
 use Rattle.host.specs.contracts.begin as begin
 use Rattle.host.specs.contracts.step as step
-use Rattle.host.specs.contracts.hand_back as hand_back_holds
+use Rattle.host.specs.contracts.hand_back as hand_back
 use Rattle.call_list_theorem.specs.Links.{Link}
 
 -- A call as `host` takes it: its arguments beside the runtime and the lent counters.
@@ -34,9 +34,9 @@ pub data HostCall : Type 0 where
 -- A call, the loan of the counters at its entry, what it gave, and the loan at its exit.
 pub record HostCallMade : Type 0 where
   pub asked : HostCall
-  pub entry : Bor Counters
+  pub entry : MutBor Counters
   pub gave : HostCallResult
-  pub exit : Bor Counters
+  pub exit : MutBor Counters
 
 -- Each call is lent the counters that the one before left.
 abbrev pub LentInTurn : Counters → List HostCallMade → Type 0
@@ -45,11 +45,11 @@ LentInTurn c (d ∷ ds) = (d.entry.now ≡ c) × LentInTurn d.exit.now ds
 
 module _ {M : Type 1} {𝓤 : Ura M} (𝓛 : Logic 𝓤) (mem : Memory → SProp 𝓤) (run : Routine → Fun 𝓤) where
   -- What the function's own contract ensures, called with the runtime s.
-  abbrev pub ensured_by : HostCall → Runtime → Bor Counters → HostCallResult → Bor Counters → SProp 𝓤
-  ensured_by (AddInitial κs m) s c r d = (add_initial_holds.clauses 𝓛 mem run κs (s, (c, (m, tt)))).ensures tt r (s, (d, (m, tt)))
+  abbrev pub ensured_by : HostCall → Runtime → MutBor Counters → HostCallResult → MutBor Counters → SProp 𝓤
+  ensured_by (AddInitial κs m) s c r d = (add_initial.clauses 𝓛 mem run κs (s, (c, (m, tt)))).ensures tt r (s, (d, (m, tt)))
   ensured_by (Begin κs t b) s c r d = (begin.clauses 𝓛 mem run κs (s, (c, (t, (b, tt))))).ensures tt r (s, (d, (t, (b, tt))))
   ensured_by (Step κs) s c r d = (step.clauses 𝓛 mem run κs (s, (c, tt))).ensures tt r (s, (d, tt))
-  ensured_by (HandBack κs mask reply) s c r d = (hand_back_holds.clauses 𝓛 mem run κs (s, (c, (mask, (reply, tt))))).ensures tt r (s, (d, (mask, (reply, tt))))
+  ensured_by (HandBack κs mask reply) s c r d = (hand_back.clauses 𝓛 mem run κs (s, (c, (mask, (reply, tt))))).ensures tt r (s, (d, (mask, (reply, tt))))
 
   -- All of a list, from the runtime s on.
   abbrev pub AllEnsured : Runtime → List HostCallMade → SProp 𝓤

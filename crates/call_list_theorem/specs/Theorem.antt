@@ -8,7 +8,7 @@ use prog.Routine.{Routine}
 use types.Logic.{Logic}
 use contract.Lifetimes.{Lfts}
 use contract.Monad.{Fun, fact, conj}
-use Rattle.std.specs.Borrow.{Bor}
+use Rattle.std.specs.Borrow.{Bor, MutBor}
 use Rattle.types.specs.declared.SimTime.{SimTime}
 use Rattle.types.specs.declared.SimDuration.{SimDuration}
 use Rattle.types.specs.Value.{ticks_of, duration_of}
@@ -30,7 +30,7 @@ use Rattle.runtime.specs.declared.CallResult.{CallResult}
 use Rattle.runtime.specs.contracts.build as build
 use Rattle.runtime.proofs.build.Reads as build'
 use Rattle.runtime.proofs.build.Statement as build''
-use Rattle.runtime.specs.contracts.add_initial as add_initial_holds
+use Rattle.runtime.specs.contracts.add_initial as add_initial
 use Rattle.runtime.proofs.add_initial.Reads as add-initial'
 use Rattle.runtime.proofs.add_initial.Statement as add-initial''
 use Rattle.runtime.specs.contracts.begin as begin
@@ -39,19 +39,19 @@ use Rattle.runtime.proofs.begin.Statement as begin''
 use Rattle.runtime.specs.contracts.step as step
 use Rattle.runtime.proofs.step.Reads as step'
 use Rattle.runtime.proofs.step.Statement as step''
-use Rattle.runtime.specs.contracts.hand_back as hand_back_holds
+use Rattle.runtime.specs.contracts.hand_back as hand_back
 use Rattle.runtime.proofs.hand_back.Reads as hand-back'
 use Rattle.runtime.proofs.hand_back.Statement as hand-back''
-use Rattle.reads.specs.contracts.read_gvt as read_gvt_holds
+use Rattle.reads.specs.contracts.read_gvt as read_gvt
 use Rattle.reads.proofs.read_gvt.Reads as read-gvt'
 use Rattle.reads.proofs.read_gvt.Statement as read-gvt''
-use Rattle.reads.specs.contracts.read_counters as read_counters_holds
+use Rattle.reads.specs.contracts.read_counters as read_counters
 use Rattle.reads.proofs.read_counters.Reads as read-counters'
 use Rattle.reads.proofs.read_counters.Statement as read-counters''
-use Rattle.reads.specs.contracts.read_pending as read_pending_holds
+use Rattle.reads.specs.contracts.read_pending as read_pending
 use Rattle.reads.proofs.read_pending.Reads as read-pending'
 use Rattle.reads.proofs.read_pending.Statement as read-pending''
-use Rattle.reads.specs.contracts.read_earliest as read_earliest_holds
+use Rattle.reads.specs.contracts.read_earliest as read_earliest
 use Rattle.reads.proofs.read_earliest.Reads as read-earliest'
 use Rattle.reads.proofs.read_earliest.Statement as read-earliest''
 use Rattle.host.specs.contracts.build as host_build
@@ -155,14 +155,14 @@ module _ (r : BuildResult) (ls : List Link) where
 -- No function of either face asks anything of its caller.
 pub record NothingAsked {M : Type 1} {𝓤 : Ura M} (𝓛 : Logic 𝓤) (mem : Memory → SProp 𝓤) (run : Routine → Fun 𝓤) : Type 2 where
   pub build : AsksNothing 𝓤 build.ended (build.clauses 𝓛 mem run)
-  pub add_initial_holds : AsksNothing 𝓤 add_initial_holds.ended (add_initial_holds.clauses 𝓛 mem run)
+  pub add_initial : AsksNothing 𝓤 add_initial.ended (add_initial.clauses 𝓛 mem run)
   pub begin : AsksNothing 𝓤 begin.ended (begin.clauses 𝓛 mem run)
   pub step : AsksNothing 𝓤 step.ended (step.clauses 𝓛 mem run)
-  pub hand_back_holds : AsksNothing 𝓤 hand_back_holds.ended (hand_back_holds.clauses 𝓛 mem run)
-  pub read_gvt_holds : AsksNothing 𝓤 read_gvt_holds.ended (read_gvt_holds.clauses 𝓛 mem run)
-  pub read_counters_holds : AsksNothing 𝓤 read_counters_holds.ended (read_counters_holds.clauses 𝓛 mem run)
-  pub read_pending_holds : AsksNothing 𝓤 read_pending_holds.ended (read_pending_holds.clauses 𝓛 mem run)
-  pub read_earliest_holds : AsksNothing 𝓤 read_earliest_holds.ended (read_earliest_holds.clauses 𝓛 mem run)
+  pub hand_back : AsksNothing 𝓤 hand_back.ended (hand_back.clauses 𝓛 mem run)
+  pub read_gvt : AsksNothing 𝓤 read_gvt.ended (read_gvt.clauses 𝓛 mem run)
+  pub read_counters : AsksNothing 𝓤 read_counters.ended (read_counters.clauses 𝓛 mem run)
+  pub read_pending : AsksNothing 𝓤 read_pending.ended (read_pending.clauses 𝓛 mem run)
+  pub read_earliest : AsksNothing 𝓤 read_earliest.ended (read_earliest.clauses 𝓛 mem run)
   pub host_build : AsksNothing 𝓤 host_build.ended (host_build.clauses 𝓛 mem run)
   pub host_initial : AsksNothing 𝓤 host_initial.ended (host_initial.clauses 𝓛 mem run)
   pub host_begin : AsksNothing 𝓤 host_begin.ended (host_begin.clauses 𝓛 mem run)
@@ -199,7 +199,7 @@ pub record ProgramTheorem (M : Type 1) : Type 2 where
       → answer_of r.answer ≡ Accepted
       → (ds : List CallMade) → ContractsHold r.state r.counters ds
       → Demand3OfProgram (setup n (duration_of L) ids.now sources.now counts.now destinations.now (lookaheads_for destinations.now lookaheads.now)) r (map link_of ds) × ReadAfter r (map link_of ds)
-  pub host_demand_3 : (𝓤 : Ura M) (𝓛 : Logic 𝓤) (mem : Memory → SProp 𝓤) (run : Routine → Fun 𝓤) (κs : Lfts 2) (n : ℕ) (L : SimDuration) (ids sources counts destinations lookaheads : Bor (List ℕ)) (c d : Bor Counters) (r : HostBuildResult)
+  pub host_demand_3 : (𝓤 : Ura M) (𝓛 : Logic 𝓤) (mem : Memory → SProp 𝓤) (run : Routine → Fun 𝓤) (κs : Lfts 2) (n : ℕ) (L : SimDuration) (ids sources counts destinations lookaheads : Bor (List ℕ)) (c d : MutBor Counters) (r : HostBuildResult)
       → answer_of r.answer ≡ Accepted
       → (ds : List HostCallMade) → LentInTurn d.now ds
       → let b = build_result_of r d.now in

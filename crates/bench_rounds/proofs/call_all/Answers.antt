@@ -1,9 +1,5 @@
 use borrow.Author.Rules.{rules}
 use native.Mathlib.Omega.{arith}
-use mathlib.Core.Path.{◌≡◌}
-use Prim.Native.Nat.{◌-◌, ◌≤◌}
-use lib.ListN.{length}
-use Rattle.call_words.specs.Decode.{decode, size}
 use Rattle.bench_rounds.proofs.Calling.{some, behind}
 use Rattle.bench_rounds.proofs.call_all.Goals as goal
 

@@ -1,4 +1,3 @@
-use borrow.Author.Rules.{rules}
 use Rattle.call_faces.proofs.Reading.{reads_4, reads_5, reads_6, reads_other}
 use Rattle.call_faces.proofs.read_by_value.Goals as goal
 

@@ -1,7 +1,5 @@
-use native.Mathlib.Omega.{arith}
-use Prim.Native.Nat.{◌-◌}
 use borrow.Author.Rules.{rules}
-use Rattle.call_host.proofs.Filling.{Filling, filling_none, filling_more, filling_all}
+use Rattle.call_host.proofs.Filling.{filling_none, filling_more, filling_all}
 use Rattle.call_host.proofs.emissions_in.Goals as goal
 
 pub loop-i-init : goal.loop-i-init

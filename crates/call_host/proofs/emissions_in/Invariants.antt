@@ -1,7 +1,5 @@
-use native.Mathlib.Omega.{arith}
 use Prim.Native.Nat.{◌-◌}
-use borrow.Author.Rules.{rules}
-use Rattle.call_host.proofs.Filling.{Filling, filling_none, filling_more, filling_all}
+use Rattle.call_host.proofs.Filling.{Filling}
 use Rattle.call_host.proofs.emissions_in.Given as goal
 
 abbrev pub invariant-loop-i : goal.invariant-loop-i

@@ -1,4 +1,3 @@
-use borrow.Author.Rules.{rules}
 use Rattle.call_host.proofs.Filling.{same_reply}
 use Rattle.call_host.proofs.hand_back.Goals as goal
 
