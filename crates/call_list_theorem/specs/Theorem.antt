@@ -31,8 +31,8 @@ use Rattle.runtime.specs.contracts.build as build
 use Rattle.runtime.proofs.build.Reads as build'
 use Rattle.runtime.proofs.build.Statement as build''
 use Rattle.runtime.specs.contracts.add_initial as add_initial
-use Rattle.runtime.proofs.add_initial.Reads as add-initial'
-use Rattle.runtime.proofs.add_initial.Statement as add-initial''
+use Rattle.runtime.proofs.add_initial.Reads as add_initial'
+use Rattle.runtime.proofs.add_initial.Statement as add_initial''
 use Rattle.runtime.specs.contracts.begin as begin
 use Rattle.runtime.proofs.begin.Reads as begin'
 use Rattle.runtime.proofs.begin.Statement as begin''
@@ -40,38 +40,38 @@ use Rattle.runtime.specs.contracts.step as step
 use Rattle.runtime.proofs.step.Reads as step'
 use Rattle.runtime.proofs.step.Statement as step''
 use Rattle.runtime.specs.contracts.hand_back as hand_back
-use Rattle.runtime.proofs.hand_back.Reads as hand-back'
-use Rattle.runtime.proofs.hand_back.Statement as hand-back''
+use Rattle.runtime.proofs.hand_back.Reads as hand_back'
+use Rattle.runtime.proofs.hand_back.Statement as hand_back''
 use Rattle.reads.specs.contracts.read_gvt as read_gvt
-use Rattle.reads.proofs.read_gvt.Reads as read-gvt'
-use Rattle.reads.proofs.read_gvt.Statement as read-gvt''
+use Rattle.reads.proofs.read_gvt.Reads as read_gvt'
+use Rattle.reads.proofs.read_gvt.Statement as read_gvt''
 use Rattle.reads.specs.contracts.read_counters as read_counters
-use Rattle.reads.proofs.read_counters.Reads as read-counters'
-use Rattle.reads.proofs.read_counters.Statement as read-counters''
+use Rattle.reads.proofs.read_counters.Reads as read_counters'
+use Rattle.reads.proofs.read_counters.Statement as read_counters''
 use Rattle.reads.specs.contracts.read_pending as read_pending
-use Rattle.reads.proofs.read_pending.Reads as read-pending'
-use Rattle.reads.proofs.read_pending.Statement as read-pending''
+use Rattle.reads.proofs.read_pending.Reads as read_pending'
+use Rattle.reads.proofs.read_pending.Statement as read_pending''
 use Rattle.reads.specs.contracts.read_earliest as read_earliest
-use Rattle.reads.proofs.read_earliest.Reads as read-earliest'
-use Rattle.reads.proofs.read_earliest.Statement as read-earliest''
+use Rattle.reads.proofs.read_earliest.Reads as read_earliest'
+use Rattle.reads.proofs.read_earliest.Statement as read_earliest''
 use Rattle.host.specs.contracts.build as host_build
-use Rattle.host.proofs.build.Statement as host-build''
+use Rattle.host.proofs.build.Statement as host_build''
 use Rattle.host.specs.contracts.add_initial as host_initial
-use Rattle.host.proofs.add_initial.Statement as host-initial''
+use Rattle.host.proofs.add_initial.Statement as host_initial''
 use Rattle.host.specs.contracts.begin as host_begin
-use Rattle.host.proofs.begin.Statement as host-begin''
+use Rattle.host.proofs.begin.Statement as host_begin''
 use Rattle.host.specs.contracts.step as host_step
-use Rattle.host.proofs.step.Statement as host-step''
+use Rattle.host.proofs.step.Statement as host_step''
 use Rattle.host.specs.contracts.hand_back as host_back
-use Rattle.host.proofs.hand_back.Statement as host-back''
+use Rattle.host.proofs.hand_back.Statement as host_back''
 use Rattle.host.specs.contracts.read_gvt as host_gvt
-use Rattle.host.proofs.read_gvt.Statement as host-gvt''
+use Rattle.host.proofs.read_gvt.Statement as host_gvt''
 use Rattle.host.specs.contracts.read_counters as host_counters
-use Rattle.host.proofs.read_counters.Statement as host-counters''
+use Rattle.host.proofs.read_counters.Statement as host_counters''
 use Rattle.host.specs.contracts.read_pending as host_pending
-use Rattle.host.proofs.read_pending.Statement as host-pending''
+use Rattle.host.proofs.read_pending.Statement as host_pending''
 use Rattle.host.specs.contracts.read_earliest as host_earliest
-use Rattle.host.proofs.read_earliest.Statement as host-earliest''
+use Rattle.host.proofs.read_earliest.Statement as host_earliest''
 use Rattle.host.specs.declared.HostBuildResult.{HostBuildResult}
 use Rattle.host.specs.HostBuildResult.{build_result_of}
 use Rattle.reads.specs.declared.ReadAnswer.{ReadAnswer}
@@ -96,10 +96,10 @@ pub record CallMade : Type 0 where
 
 -- What the function's own contract tells its caller, called with the runtime s and the counters c.
 abbrev pub ContractHolds : Runtime → Counters → CallArguments → CallResult → Type 0
-ContractHolds s c (AddInitial m) r = add-initial'.Learnt tt (s, (c, (m, tt))) r (s, (c, (m, tt)))
+ContractHolds s c (AddInitial m) r = add_initial'.Learnt tt (s, (c, (m, tt))) r (s, (c, (m, tt)))
 ContractHolds s c (Begin h b) r = begin'.Learnt tt (s, (c, (h, (b, tt)))) r (s, (c, (h, (b, tt))))
 ContractHolds s c Step r = step'.Learnt tt (s, (c, tt)) r (s, (c, tt))
-ContractHolds s c (HandBack κs mask reply) r = hand-back'.Learnt κs (s, (c, (mask, (reply, tt)))) r (s, (c, (mask, (reply, tt))))
+ContractHolds s c (HandBack κs mask reply) r = hand_back'.Learnt κs (s, (c, (mask, (reply, tt)))) r (s, (c, (mask, (reply, tt))))
 
 -- Each call is made with the runtime and the counters that the one before gave.
 abbrev pub ContractsHold : Runtime → Counters → List CallMade → Type 0
@@ -140,10 +140,10 @@ module _ (r : BuildResult) (ls : List Link) where
 
   -- The functions of `reads`, called then.
   pub record ReadAfter : Type 0 where
-    pub gvt : (a : ReadAnswer) → read-gvt'.Learnt tt (state, (counters, tt)) a (state, (counters, tt)) → read_of a ≡ gvt_after
-    pub counted : (a : ReadAnswer) → read-counters'.Learnt tt (state, (counters, tt)) a (state, (counters, tt)) → read_of a ≡ counters_after
-    pub pending : (a : ReadAnswer) → read-pending'.Learnt tt (state, (counters, tt)) a (state, (counters, tt)) → read_of a ≡ pending_after
-    pub earliest : (a : ReadAnswer) → read-earliest'.Learnt tt (state, (counters, tt)) a (state, (counters, tt)) → read_of a ≡ earliest_after
+    pub gvt : (a : ReadAnswer) → read_gvt'.Learnt tt (state, (counters, tt)) a (state, (counters, tt)) → read_of a ≡ gvt_after
+    pub counted : (a : ReadAnswer) → read_counters'.Learnt tt (state, (counters, tt)) a (state, (counters, tt)) → read_of a ≡ counters_after
+    pub pending : (a : ReadAnswer) → read_pending'.Learnt tt (state, (counters, tt)) a (state, (counters, tt)) → read_of a ≡ pending_after
+    pub earliest : (a : ReadAnswer) → read_earliest'.Learnt tt (state, (counters, tt)) a (state, (counters, tt)) → read_of a ≡ earliest_after
 
   -- The reads of `host`, called then with a loan c of the counters, where P is known of the list.
   pub record HostReadAfter {M : Type 1} {𝓤 : Ura M} (𝓛 : Logic 𝓤) (mem : Memory → SProp 𝓤) (run : Routine → Fun 𝓤) (P : SProp 𝓤) : Type 1 where
@@ -176,23 +176,23 @@ pub record NothingAsked {M : Type 1} {𝓤 : Ura M} (𝓛 : Logic 𝓤) (mem : M
 -- Each function meets its contract, asks nothing, and what the contracts tell of a build that is not refused and of the calls of any list after it gives demand 3: of `runtime` and `reads`, and of `host`.
 pub record ProgramTheorem (M : Type 1) : Type 2 where
   pub build_meets : build''.statement M
-  pub add_initial_meets : add-initial''.statement M
+  pub add_initial_meets : add_initial''.statement M
   pub begin_meets : begin''.statement M
   pub step_meets : step''.statement M
-  pub hand_back_meets : hand-back''.statement M
-  pub read_gvt_meets : read-gvt''.statement M
-  pub read_counters_meets : read-counters''.statement M
-  pub read_pending_meets : read-pending''.statement M
-  pub read_earliest_meets : read-earliest''.statement M
-  pub host_build_meets : host-build''.statement M
-  pub host_initial_meets : host-initial''.statement M
-  pub host_begin_meets : host-begin''.statement M
-  pub host_step_meets : host-step''.statement M
-  pub host_back_meets : host-back''.statement M
-  pub host_gvt_meets : host-gvt''.statement M
-  pub host_counters_meets : host-counters''.statement M
-  pub host_pending_meets : host-pending''.statement M
-  pub host_earliest_meets : host-earliest''.statement M
+  pub hand_back_meets : hand_back''.statement M
+  pub read_gvt_meets : read_gvt''.statement M
+  pub read_counters_meets : read_counters''.statement M
+  pub read_pending_meets : read_pending''.statement M
+  pub read_earliest_meets : read_earliest''.statement M
+  pub host_build_meets : host_build''.statement M
+  pub host_initial_meets : host_initial''.statement M
+  pub host_begin_meets : host_begin''.statement M
+  pub host_step_meets : host_step''.statement M
+  pub host_back_meets : host_back''.statement M
+  pub host_gvt_meets : host_gvt''.statement M
+  pub host_counters_meets : host_counters''.statement M
+  pub host_pending_meets : host_pending''.statement M
+  pub host_earliest_meets : host_earliest''.statement M
   pub nothing_asked : (𝓤 : Ura M) (𝓛 : Logic 𝓤) (mem : Memory → SProp 𝓤) (run : Routine → Fun 𝓤) → NothingAsked 𝓛 mem run
   pub demand_3 : (κs : Lfts 1) (n : ℕ) (L : SimDuration) (ids sources counts destinations lookaheads : Bor (List ℕ)) (c : Counters) (r : BuildResult)
       → build'.Learnt κs (n, (L, (ids, (sources, (counts, (destinations, (lookaheads, (c, tt)))))))) r (n, (L, (ids, (sources, (counts, (destinations, (lookaheads, (c, tt))))))))
