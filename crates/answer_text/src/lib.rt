@@ -3,7 +3,7 @@
 
 #![tactic(auto)]
 
-ghost use Rattle.std.specs.Prelude.{◌≡◌, ◌≤◌, length};
+ghost use Rattle.std.specs.Prelude.{◌≡◌, ℕ, ◌<◌, ◌≤◌, ◌≢◌, length, slice_index};
 
 use answer_values::Values;
 use build::BuildAnswer;
@@ -59,7 +59,9 @@ fn min(a: usize, b: usize) -> usize
 // The first place from `from` on, below `to`, where the byte is b; `to` where there is none.
 fn find(bytes: &[u8], from: usize, to: usize, b: u8) -> usize
     requires { (from ≤ to) × (to ≤ length bytes.now) }
-    ensures { (from ≤ result) × (result ≤ to) }
+    ensures within { (from ≤ result) × (result ≤ to) }
+    ensures before { (k : ℕ) → from ≤ k → k < result → slice_index bytes.now k ≢ b }
+    ensures found { result < to → slice_index bytes.now result ≡ b }
 {
     for i in from..to {
         if bytes[i] == b {
