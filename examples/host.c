@@ -1,7 +1,7 @@
 /* A host in C: rehearses the plan file that is named and prints its listing. From the root of the repository:
  *
- *   rt staticlib dorrezubi
- *   cc -Wall -Wextra -Werror -I include examples/host.c target/staticlib/libdorrezubi.a -o target/host
+ *   ./release
+ *   cc -Wall -Wextra -Werror -I dist/include examples/host.c dist/lib/libdorrezubi.a -o target/host
  *   target/host examples/c1.plan
  *
  * It exits with the number returned: 0 the listing was printed, 37 to 39 it was not (include/dorrezubi.h has them in
