@@ -1,6 +1,6 @@
 """The kit's own library, for what no command of rt's does: checks of changed copies of a crate, and an archive over the libraries that
 rt ci has just proved."""
-import os, re, shutil, subprocess, sys, tempfile
+import hashlib, os, re, shutil, subprocess, sys, tempfile
 
 ROOT = os.path.dirname(os.path.dirname(os.path.abspath(__file__)))
 RT = shutil.which('rt') or sys.exit('there is no rt on the PATH; README.md says where the Rattle kit comes from')
@@ -20,6 +20,14 @@ def want_libraries(it):
     lacking = [below.name for below in it.below() if not os.path.isdir(below.rlib)]
     if lacking:
         sys.exit(f'{it.name}: no library {lacking[0]} is built; rt ci leaves those that it proved in a clean clone, and rt lib makes them elsewhere')
+
+def stamp(it, seen={}):
+    """A checksum of all that a check of the crate reads: the kit, its own files, and those of the crates below."""
+    if it.name not in seen:
+        files = [(os.path.relpath(path, it.folder), read(path)) for path in rtlib.files_of(it.folder)]
+        parts = [read(f'{KIT}/KIT-ID'), read(f'{KIT}/WHAT'), it.said, files, [stamp(dep) for dep in it.deps]]
+        seen[it.name] = hashlib.sha256(repr(parts).encode()).hexdigest()
+    return seen[it.name]
 
 def read(path):
     with open(path, encoding='utf-8', errors='replace') as file:
