@@ -10,10 +10,11 @@ import rtlib  # noqa: E402
 
 KIT = rtlib.KIT
 # Read once: the crates' libraries, by their folders.
-KNOWN = {}
+KNOWN, ONE = {}, threading.Lock()
 
 def crate(name):
-    return rtlib.Crate(f'{ROOT}/crates/{name}', ROOT, KNOWN)
+    with ONE:
+        return rtlib.Crate(f'{ROOT}/crates/{name}', ROOT, KNOWN)
 
 def want_libraries(it):
     """Ends the run where a library below the crate is not in out/. That they are of the same text is for the caller to know: rt ci notes it nowhere."""
