@@ -1,6 +1,6 @@
 """The kit's own library, for what no command of rt's does: checks of changed copies of a crate, and an archive over the libraries that
 rt ci has just proved."""
-import hashlib, os, re, shutil, subprocess, sys, tempfile
+import hashlib, os, re, shutil, subprocess, sys, tempfile, threading
 
 ROOT = os.path.dirname(os.path.dirname(os.path.abspath(__file__)))
 RT = shutil.which('rt') or sys.exit('there is no rt on the PATH; README.md says where the Rattle kit comes from')
