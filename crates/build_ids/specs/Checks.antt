@@ -1,11 +1,10 @@
 -- What each check answers, in the words of rules/Build.
-use Rattle.std.specs.Prelude.{◌≡◌, Bool, true, false, not, List, [], ◌∷◌, ℕ, ◌≤◌, ltb, eqb}
+use Rattle.std.specs.Prelude.{◌≡◌, Bool, true, false, not, List, [], ◌∷◌, ℕ, ◌≤◌, ltb, eqb, Option, Some, None}
 use Rattle.rules.specs.Base.{if◌then◌otherwise◌, Maybe, none, some, up_to, any, member, rising}
 use Rattle.rules.specs.Build.{missing, unexpected, least_without_row}
+use Rattle.types.specs.declared.LpId.{LpId}
 use Rattle.types.specs.Value.{lp_id_of}
 use Rattle.build_ids.specs.declared.IdMismatch.{IdMismatch}
-use Rattle.build_ids.specs.declared.MissingRow.{MissingRow}
-use Rattle.build_ids.specs.declared.MissingRow.TheVariants.{At, Nothing}
 
 -- p is the first of the list.
 abbrev pub starts_with : ℕ → List ℕ → Bool
@@ -28,6 +27,6 @@ missing_row_in sources ps = if any (λ p. not (member p sources)) ps then some (
 unfoldable pub missing_row : ℕ → List ℕ → Maybe ℕ
 missing_row n sources = missing_row_in sources (up_to n)
 
-abbrev pub missing_row_of : MissingRow → Maybe ℕ
-missing_row_of (At p) = some (lp_id_of p)
-missing_row_of Nothing = none
+abbrev pub missing_row_of : Option LpId → Maybe ℕ
+missing_row_of (Some p) = some (lp_id_of p)
+missing_row_of None = none

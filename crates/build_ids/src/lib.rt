@@ -16,13 +16,6 @@ pub struct IdMismatch {
     pub unexpected: u64,
 }
 
-// 6: the least process that has no row.
-#[derive(Clone, Copy)]
-pub enum MissingRow {
-    At(LpId),
-    Nothing,
-}
-
 pub fn widen(x: u32) -> u64
     ensures { result ≡ x }
 {
@@ -83,17 +76,15 @@ pub fn check_ids(ids: &[u32], n: u64) -> IdMismatch
     }
 }
 
-// 6, of sources that rise: up to the first process without a row, p's row is at place p.
-pub fn least_without_row(sources: &[u32], n: u64) -> MissingRow
+// 6, of sources that rise: the least process that has no row. Up to it, p's row is at place p.
+pub fn least_without_row(sources: &[u32], n: u64) -> Option<LpId>
     requires { RisingIds n sources.now }
     ensures { missing_row_of result ≡ missing_row n sources.now }
 {
-    let mut p: u64 = 0;
-    while p < n {
+    for p in 0..n {
         if !is_at(sources, p as usize, p) {
-            return MissingRow::At(LpId(p as u32));
+            return Some(LpId(p as u32));
         }
-        p += 1;
     }
-    MissingRow::Nothing
+    None
 }
