@@ -31,7 +31,7 @@ module _ (s : List ℕ) where
 
   -- Four bytes.
   module _ (i : ℕ) (h : i + 4 ≤ length s) (each : (k : ℕ) → get_or s k 0 < 256) where
-    four_is : value_of (take 32 (drop (i * 8) b)) ≡ get_or s i 0 * 2 ^ 24 + (get_or s (i + 1) 0 * 2 ^ 16 + (get_or s (i + 2) 0 * 2 ^ 8 + get_or s (i + 3) 0))
+    pub four_is : value_of (take 32 (drop (i * 8) b)) ≡ get_or s i 0 * 2 ^ 24 + (get_or s (i + 1) 0 * 2 ^ 16 + (get_or s (i + 2) 0 * 2 ^ 8 + get_or s (i + 3) 0))
     four_is =
         let e₂ : i + 1 + 1 ≡ i + 2 = omega arith in
         let e₃ : i + 2 + 1 ≡ i + 3 = omega arith in
@@ -40,10 +40,6 @@ module _ (s : List ℕ) where
         let z = bytes_more (i + 2) 8 (omega arith) (each (i + 2)) (omega arith) in
         let u = byte (i + 3) (omega arith) (each (i + 3)) in
         omega (arith, x, rw e₂ at y, rw e₃ at z, u)
-
-    module _ (p q r t : ℕ) (ep : p ≡ get_or s i 0) (eq : q ≡ get_or s (i + 1) 0) (er : r ≡ get_or s (i + 2) 0) (et : t ≡ get_or s (i + 3) 0) where
-      pub half_is : (p * 2 ^ 24) % 2 ^ 64 + (q * 2 ^ 16) % 2 ^ 64 + (r * 2 ^ 8) % 2 ^ 64 + t ≡ value_of (take 32 (drop (i * 8) b))
-      half_is = omega (arith, four_is, each i, each (i + 1), each (i + 2), each (i + 3))
 
   -- Two fields of up to 32 bits: the second has 32.
   module _ (at n : ℕ) (l : n ≤ 32) (h : at + n + 32 ≤ length s * 8) (p q : ℕ) (ep : p ≡ value_of (take n (drop at b))) (eq : q ≡ value_of (take 32 (drop (at + n) b))) where

@@ -7,18 +7,6 @@ ghost use Rattle.std.specs.Prelude.{◌≡◌, ◌+◌, ◌*◌, ◌/◌, ◌%�
 ghost use Rattle.bits.specs.Bits.{value_of};
 ghost use Rattle.bits.specs.Bytes.{stream};
 
-fn lesser(a: usize, b: usize) -> usize
-    ensures { result ≡ min a b }
-{
-    if a < b { a } else { b }
-}
-
-fn to_u64(b: u8) -> u64
-    ensures { result ≡ b }
-{
-    b as u64
-}
-
 // The t bits of b above its r lowest, behind those of acc. By shifts alone: the bits above them leave
 // the word at its upper end.
 fn append_bits(acc: u64, b: u64, r: usize, t: usize) -> u64
@@ -36,11 +24,12 @@ fn read_bytes(s: &[u8], at: usize, w: usize) -> u64
     let end = at + w;
     let mut p = at;
     let mut acc: u64 = 0;
+    // Kept by hand: a step passes over the bits that are wanted of a byte, from one to eight of them.
     while p < end {
         let have = 8 - p % 8;
-        let t = lesser(have, end - p);
+        let t = have.min(end - p);
         let i = p / 8;
-        acc = append_bits(acc, to_u64(s[i]), have - t, t);
+        acc = append_bits(acc, u64::from(s[i]), have - t, t);
         p += t;
     }
     acc
@@ -51,11 +40,7 @@ fn half_at(s: &[u8], i: usize) -> u64
     requires { i + 4 ≤ length s.now }
     ensures { result ≡ value_of (take 32 (drop (i * 8) (stream s.now))) }
 {
-    let a = to_u64(s[i]);
-    let b = to_u64(s[i + 1]);
-    let c = to_u64(s[i + 2]);
-    let d = to_u64(s[i + 3]);
-    (a << 24) + (b << 16) + (c << 8) + d
+    u64::from(u32::from_be_bytes([s[i], s[i + 1], s[i + 2], s[i + 3]]))
 }
 
 // Eight bytes from byte i on, the first highest.

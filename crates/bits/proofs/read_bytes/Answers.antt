@@ -23,17 +23,17 @@ append_bits-acc-requires c =
     let n : ℕ = v.p - a.at in
     let l : List Bool = take n (drop a.at (stream a.s.now)) in
     let h : length l ≤ n = rw length-take (omega arith) in
-    (omega arith, omega arith, omega arith, room l c.lesser-t.result v.acc v.invariant.2 (omega arith))
+    (omega arith, omega arith, omega arith, room l c.min-t.result v.acc v.invariant.2 (omega arith))
 
 pub loop-p-preserved : goal.loop-p-preserved
 loop-p-preserved c =
     let a = c.args in
     let v = c.loop-p in
-    let t : ℕ = c.lesser-t.result in
+    let t : ℕ = c.min-t.result in
     let r : ℕ = 8 - v.p % 8 - t in
     let e : (v.p - a.at) + t ≡ v.p + t - a.at = omega arith in
     let m = value_more a.s.now (v.p / 8) (v.p % 8) t r (omega arith) (omega arith) a.at (v.p - a.at) (omega arith) in
-    (omega arith, omega arith, c.append_bits-acc.ensures ∙ rw (v.invariant.2, c.to_u64.ensures) (sym m ∙ ap (λ (k : ℕ). value_of (take k (drop a.at (stream a.s.now)))) e))
+    (omega arith, omega arith, c.append_bits-acc.ensures ∙ rw (v.invariant.2, c.from.ensures) (sym m ∙ ap (λ (k : ℕ). value_of (take k (drop a.at (stream a.s.now)))) e))
 
 pub returns : goal.returns
 returns c =
