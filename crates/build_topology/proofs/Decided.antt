@@ -1,4 +1,5 @@
 -- 7 to 10 and 40: what the tables of build's rows decide, a step at a time.
+use Rattle.std.specs.Prelude.{Result, Ok, Err}
 use mathlib.Core.Path.{◌≡◌, refl, sym, ap, ◌∙◌}
 use mathlib.Core.Bool.{Bool, true, false, ◌||◌}
 use mathlib.Core.List.{List, [], ◌∷◌, ◌++◌}
@@ -18,8 +19,8 @@ use Rattle.rules.proofs.Lists.{sum_more}
 use Rattle.types.specs.declared.LpId.{LpId}
 use Rattle.types.specs.Value.{lp_id_of}
 use Rattle.words.specs.Words.{tick_at}
-use Rattle.build_topology.specs.declared.TopologyCheck.{TopologyCheck}
-use Rattle.build_topology.specs.declared.TopologyCheck.TheVariants as fault
+use Rattle.build_topology.specs.declared.TopologyRefusal.{TopologyRefusal}
+use Rattle.build_topology.specs.declared.TopologyRefusal.TheVariants as fault
 use Rattle.build_topology.specs.Lookaheads.{targets_for}
 use Rattle.build_topology.specs.Checks.{first_refusal, refusal_of, Unmarked, CheckedRow, RowsPassed}
 use Rattle.build_topology.proofs.Beside.{targets_part, part_beside, target_at, targets_at}
@@ -34,14 +35,16 @@ unfolding first_refusal unless if◌then◌otherwise◌
 decided_append [] ts = refl
 decided_append (r ∷ rs) ts = by_bool r.test (λ e. rw e) (λ e. rw e (decided_append rs ts))
 
--- A check that is not Valid refuses, whatever comes behind it.
-refused_first : (m : Maybe Refusal) (r : TopologyCheck) → (r ≡ fault.Valid → ⊥) → or_else (refusal_of r) m ≡ refusal_of r
-refused_first m fault.Valid w = absurd (w refl)
-refused_first m (fault.UnknownTopologySource p) w = refl
-refused_first m (fault.UnknownTopologyDestination p d) w = refl
-refused_first m (fault.SelfLoop p) w = refl
-refused_first m (fault.DuplicateNeighbor p d) w = refl
-refused_first m fault.InvalidEdgeLookahead w = refl
+-- What a row's check answers; one that refuses does so whatever comes behind it.
+abbrev pub Checked : Type 0
+Checked = Result (Unit {0}) TopologyRefusal
+
+refused_first : (m : Maybe Refusal) (r : TopologyRefusal) → or_else (refusal_of (Err r)) m ≡ refusal_of (Err r)
+refused_first m (fault.UnknownTopologySource p) = refl
+refused_first m (fault.UnknownTopologyDestination p d) = refl
+refused_first m (fault.SelfLoop p) = refl
+refused_first m (fault.DuplicateNeighbor p d) = refl
+refused_first m fault.InvalidEdgeLookahead = refl
 
 -- A row's destinations
 
@@ -99,7 +102,7 @@ pub record Stamped (n p : ℕ) (ds ws : List ℕ) (stamp : ℕ) (marks : List �
   pub low : (x : ℕ) → get_or marks x 0 ≤ stamp
 
 module _ (n : ℕ) (source : LpId) (ds ws : List ℕ) (stamp : ℕ) (marks : List ℕ) where
-  abbrev row_checked : TopologyCheck → Type 0
+  abbrev row_checked : Checked → Type 0
   row_checked r = CheckedRow n (lp_id_of source) (targets_for ds ws) marks stamp r
 
   pub stamped_none : Unmarked n marks stamp → Stamped n (lp_id_of source) ds ws stamp marks 0
@@ -107,7 +110,7 @@ module _ (n : ℕ) (source : LpId) (ds ws : List ℕ) (stamp : ℕ) (marks : Lis
   stamped_none f = record { within = omega arith; room = f.room; left = refl; seen = λ x. ne_eqb (get_or marks x 0) stamp (λ e. omega (arith, f.unmarked x)); low = λ x. omega (arith, f.unmarked x) }
 
   module _ (w : length ws ≡ 2 * length ds) (i : ℕ) (s : Stamped n (lp_id_of source) ds ws stamp marks i) where
-    pub stamped_all : length ds ≤ i → row_checked fault.Valid
+    pub stamped_all : length ds ≤ i → row_checked (Ok tt)
     unfolding first_refusal unless destination_rows targets
     stamped_all h = record { answer = sym (s.left ∙ rw (drop_of_length-le ds h)); marked = s.low }
 
@@ -122,15 +125,15 @@ module _ (n : ℕ) (source : LpId) (ds ws : List ℕ) (stamp : ℕ) (marks : Lis
       opened : first_refusal (destination_rows n (lp_id_of source) [] (targets_for ds ws)) ≡ first_refusal (destination_rows n (lp_id_of source) (met i ds) (target_at ds ws i ∷ after))
       opened = s.left ∙ ap (λ (l : List Target). first_refusal (destination_rows n (lp_id_of source) (met i ds) l)) (targets_at ds ws i w h)
 
-      pub stamped_unknown : n ≤ d → row_checked (fault.UnknownTopologyDestination source destination)
+      pub stamped_unknown : n ≤ d → row_checked (Err (fault.UnknownTopologyDestination source destination))
       stamped_unknown a = record { answer = sym (opened ∙ at_unknown n _ _ _ _ (rw e at a)); marked = s.low }
 
       module _ (a : d < n) (b : Bool) (q : b ≡ eqb (get_or ds i 0) (lp_id_of source)) where
-        pub stamped_self : b ≡ true → row_checked (fault.SelfLoop source)
+        pub stamped_self : b ≡ true → row_checked (Err (fault.SelfLoop source))
         stamped_self t = record { answer = sym (opened ∙ at_self n _ _ _ _ (rw e at a) (sym q ∙ t)); marked = s.low }
 
         module _ (t : b ≡ false) where
-          pub stamped_twice : get_or marks d 0 ≡ stamp → row_checked (fault.DuplicateNeighbor source destination)
+          pub stamped_twice : get_or marks d 0 ≡ stamp → row_checked (Err (fault.DuplicateNeighbor source destination))
           stamped_twice m = record { answer = sym (opened ∙ at-twice n _ _ _ _ (rw e at a) (sym q ∙ t) (rw e at (sym (s.seen d) ∙ eq-eqb _ _ m))); marked = s.low }
 
           -- The lookahead at place i, and whether it is 0.
@@ -138,7 +141,7 @@ module _ (n : ℕ) (source : LpId) (ds ws : List ℕ) (stamp : ℕ) (marks : Lis
             first-met : member (get_or ds i 0) (met i ds) ≡ false
             first-met = rw e at (sym (s.seen d) ∙ ne_eqb _ _ m)
 
-            pub stamped_nought : z ≡ true → row_checked fault.InvalidEdgeLookahead
+            pub stamped_nought : z ≡ true → row_checked (Err fault.InvalidEdgeLookahead)
             stamped_nought o = record { answer = sym (opened ∙ at-nought n _ _ _ _ (rw e at a) (sym q ∙ t) first-met (rw f at (sym g ∙ o))); marked = s.low }
 
             pub stamped_new : z ≡ false → Stamped n (lp_id_of source) ds ws stamp (set marks d stamp) (i + 1)
@@ -213,17 +216,17 @@ module _ (n : ℕ) (sources counts ds ws : List ℕ) where
         turned_unknown a = sym (opened-row ∙ row_unknown n _ _ _ _ _ (rw e at a))
 
         -- What the row decides, and the rows after it.
-        module _ (a : p < n) (end : ℕ) (f : end ≡ at + get_or counts i 0) (after : List ℕ) (r : TopologyCheck) (j : CheckedRow n (get_or sources i 0) (targets_for (take (end - at) (drop at ds)) (take (2 * end - 2 * at) (drop (2 * at) ws))) after (i + 1) r) where
+        module _ (a : p < n) (end : ℕ) (f : end ≡ at + get_or counts i 0) (after : List ℕ) (r : Checked) (j : CheckedRow n (get_or sources i 0) (targets_for (take (end - at) (drop at ds)) (take (2 * end - 2 * at) (drop (2 * at) ws))) after (i + 1) r) where
           turned-else : all_decided ≡ or_else (refusal_of r) (first_refusal (topology_rows n (drop (suc i) sources) (drop (suc i) counts) (drop end (targets_for ds ws))))
           turned-else =
               let g : end - at ≡ get_or counts i 0 = omega arith in
               let d : drop (get_or counts i 0) (drop at (targets_for ds ws)) ≡ drop end (targets_for ds ws) = drop-drop (get_or counts i 0) at (targets_for ds ws) ∙ rw (← f) in
               rw (j.answer, ← targets_part ds ws s.beside at end (omega arith), g, ← d) (opened-row ∙ row_else n _ _ _ _ _ (rw e at a))
 
-          pub turned_refused : (r ≡ fault.Valid → ⊥) → refusal_of r ≡ all_decided
-          turned_refused w = sym (turned-else ∙ refused_first _ r w)
+          pub turned_refused : (why : TopologyRefusal) → r ≡ Err why → refusal_of (Err why) ≡ all_decided
+          turned_refused why v = sym (turned-else ∙ rw v (refused_first _ why))
 
-          pub turned_sound : r ≡ fault.Valid → length after ≡ length marks → Turned n sources counts ds ws after end (i + 1)
+          pub turned_sound : r ≡ Ok tt → length after ≡ length marks → Turned n sources counts ds ws after end (i + 1)
           turned_sound v w = record {
             within = omega arith;
             room = w ∙ t.room;

@@ -16,10 +16,9 @@ ghost use Rattle.build_topology.specs.Checks.{RowsWellFormed, Unmarked, CheckedR
 use build_ids::rising;
 use types::{LpId, MAX_EDGES};
 
-// 7 to 10 and 40, with the values that come with each.
+// 7 to 10 and 40: why rows are refused, with the values that come with each.
 #[derive(Clone, Copy)]
-pub enum TopologyCheck {
-    Valid,
+pub enum TopologyRefusal {
     UnknownTopologySource(LpId),
     UnknownTopologyDestination(LpId, LpId),
     SelfLoop(LpId),
@@ -32,14 +31,11 @@ pub fn sums_to(counts: &[u64], total: usize) -> bool
     ensures { result ≡ eqb (sum counts.now) total }
 {
     let mut left = total as u64;
-    let mut i: usize = 0;
-    while i < counts.len() {
-        let k = counts[i];
+    for &k in counts {
         if left < k {
             return false;
         }
         left -= k;
-        i += 1;
     }
     left == 0
 }
@@ -77,33 +73,31 @@ fn check_row<'a>(
     n: u64,
     marks: &mut [u64],
     stamp: u64,
-) -> TopologyCheck
+) -> Result<(), TopologyRefusal>
     requires { Unmarked n marks.old stamp × (length lookaheads.now ≡ 2 * length destinations.now) }
     ensures { CheckedRow n (lp_id_of source) (targets_for destinations.now lookaheads.now) marks.new stamp result }
 {
-    let mut i: usize = 0;
-    while i < destinations.len() {
-        let destination = LpId(destinations[i]);
+    for (i, &id) in destinations.iter().enumerate() {
+        let destination = LpId(id);
         let d = destination.to_word();
         if n <= d {
-            return TopologyCheck::UnknownTopologyDestination(source, destination);
+            return Err(TopologyRefusal::UnknownTopologyDestination(source, destination));
         }
         if destination.eq(source) {
-            return TopologyCheck::SelfLoop(source);
+            return Err(TopologyRefusal::SelfLoop(source));
         }
         let k = d as usize;
         let mark = marks[k];
         let lookahead = words::duration_in(lookaheads, 2 * i);
         if mark == stamp {
-            return TopologyCheck::DuplicateNeighbor(source, destination);
+            return Err(TopologyRefusal::DuplicateNeighbor(source, destination));
         }
         if lookahead.is_zero() {
-            return TopologyCheck::InvalidEdgeLookahead;
+            return Err(TopologyRefusal::InvalidEdgeLookahead);
         }
         marks[k] = stamp;
-        i += 1;
     }
-    TopologyCheck::Valid
+    Ok(())
 }
 
 // 7 to 10 and 40, row by row.
@@ -113,36 +107,30 @@ pub fn check_rows<'a>(
     destinations: &'a [u32],
     lookaheads: &'a [u64],
     n: u64,
-) -> TopologyCheck
+) -> Result<(), TopologyRefusal>
     requires { RowsPassed n sources.now counts.now destinations.now lookaheads.now }
     ensures { refusal_of result ≡ first_refusal (topology_rows n sources.now counts.now (targets_for destinations.now lookaheads.now)) }
 {
     let mut marks = [0u64; 64];
     let mut at: usize = 0;
-    let mut i: usize = 0;
-    while i < sources.len() {
-        let source = LpId(sources[i]);
+    for (i, &id) in sources.iter().enumerate() {
+        let source = LpId(id);
         if n <= source.to_word() {
-            return TopologyCheck::UnknownTopologySource(source);
+            return Err(TopologyRefusal::UnknownTopologySource(source));
         }
         let end = at + counts[i] as usize;
         let stamp = i as u64 + 1;
         let low = 2 * at;
         let high = 2 * end;
-        let fault = check_row(
+        check_row(
             &destinations[at..end],
             &lookaheads[low..high],
             source,
             n,
             &mut marks,
             stamp,
-        );
-        if let TopologyCheck::Valid = fault {
-            at = end;
-            i += 1;
-        } else {
-            return fault;
-        }
+        )?;
+        at = end;
     }
-    TopologyCheck::Valid
+    Ok(())
 }

@@ -1,5 +1,6 @@
 use mathlib.Core.Path.{refl}
 use native.Mathlib.Omega.{arith}
+use Rattle.std.proofs.lemmas.Result.{err_from_is_err_and}
 use Rattle.build_topology.proofs.Decided.{turned_none, turned_all, turned_ready, turned_fits, turned_unknown, turned_refused, turned_sound}
 use Rattle.build_topology.proofs.check_rows.Goals as goal
 
@@ -21,16 +22,18 @@ slice_bounds-check_row-end c = search turned_fits depth 1
 pub slice_bounds-check_row-end-in-loop-i : goal.slice_bounds-check_row-end-in-loop-i
 slice_bounds-check_row-end-in-loop-i c = omega (arith, c.requires.beside, turned_fits _ _ _ _ _ c.requires _ _ _ c.loop-i.invariant c.loop-i-test.true)
 
-pub check_row-fault-requires : goal.check_row-fault-requires
-check_row-fault-requires c =
+pub check_row-requires : goal.check_row-requires
+check_row-requires c =
     turned_ready _ _ _ _ _ c.requires _ _ _ c.loop-i.invariant c.loop-i-test.true _ refl
 
 pub loop-i-preserved : goal.loop-i-preserved
 loop-i-preserved c =
-    turned_sound _ _ _ _ _ c.requires _ _ _ c.loop-i.invariant c.loop-i-test.true _ c.to_word.ensures c.if-n-to_word.false _ refl _ _ c.check_row-fault.ensures c.in-Valid.is c.check_row-fault.auto.marks
+    turned_sound _ _ _ _ _ c.requires _ _ _ c.loop-i.invariant c.loop-i-test.true _ c.to_word.ensures c.if-n-to_word.false _ refl _ _ c.check_row.ensures c.in_ok-check_row.was c.check_row.auto.marks
 
-pub returns-in_default : goal.returns-in_default
-returns-in_default c = search turned_refused depth 1
+pub returns-in_err-check_row : goal.returns-in_err-check_row
+returns-in_err-check_row c =
+    let p = err_from_is_err_and c.from_residual.result c.from_residual.ensures.1 in
+    rw (p.1, p.2) (turned_refused _ _ _ _ _ c.requires _ _ _ c.loop-i.invariant c.loop-i-test.true _ c.to_word.ensures c.if-n-to_word.false _ refl _ _ c.check_row.ensures _ c.in_err-check_row.was)
 
 pub returns : goal.returns
 returns c = search turned_all depth 1
