@@ -3,7 +3,7 @@
 
 #![tactic(auto)]
 
-use text_input::{Next, STDIN_FILENO};
+use text_input::STDIN_FILENO;
 
 // A list of more things is taken for something that cannot be decoded.
 const MAX_ITEMS: u64 = 4096;
@@ -11,80 +11,67 @@ const MAX_ITEMS: u64 = 4096;
 // So is a build with more words of lookaheads.
 const MAX_LOOKAHEAD_WORDS: u64 = 8192;
 
+// The next word, where it is a number up to `most`.
+fn read_count(most: u64) -> Option<u64> {
+    text_input::read_word(STDIN_FILENO).filter(|count| *count <= most)
+}
+
 // A number, and then so many things of `width` words.
-fn skip_items(width: u64) -> bool {
-    let Next::Word(count) = text_input::read_word(STDIN_FILENO) else {
-        return false;
-    };
-    if MAX_ITEMS < count {
-        return false;
+fn skip_items(width: u64) -> Option<()> {
+    let count = read_count(MAX_ITEMS)?;
+    for _ in 0..width {
+        text_input::skip_words(STDIN_FILENO, count)?;
     }
-    let mut left = width;
-    while 0 < left {
-        if !text_input::skip_words(STDIN_FILENO, count) {
-            return false;
-        }
-        left -= 1;
-    }
-    true
+    Some(())
 }
 
 // A number of words, and these words.
-fn skip_lookaheads() -> bool {
-    match text_input::read_word(STDIN_FILENO) {
-        Next::Word(count) => count <= MAX_LOOKAHEAD_WORDS
-            && text_input::skip_words(STDIN_FILENO, count),
-        Next::End => false,
-    }
+fn skip_lookaheads() -> Option<()> {
+    let count = read_count(MAX_LOOKAHEAD_WORDS)?;
+    text_input::skip_words(STDIN_FILENO, count)
 }
 
 // Process count and lookahead; ids, rows, destinations and their lookaheads.
-pub fn skip_build() -> bool {
-    text_input::skip_words(STDIN_FILENO, 3)
-        && skip_items(1)
-        && skip_items(2)
-        && skip_items(1)
-        && skip_lookaheads()
+pub fn skip_build() -> Option<()> {
+    text_input::skip_words(STDIN_FILENO, 3)?;
+    skip_items(1)?;
+    skip_items(2)?;
+    skip_items(1)?;
+    skip_lookaheads()
 }
 
-// A number of places, of which there may be as many as of other things.
-fn skip_places() -> bool {
-    match text_input::read_word(STDIN_FILENO) {
-        Next::Word(places) => places <= MAX_ITEMS,
-        Next::End => false,
-    }
+// A plan: process count and lookahead; a number of places, of which there may be as many as of other
+// things; entities.
+fn skip_plan() -> Option<()> {
+    text_input::skip_words(STDIN_FILENO, 3)?;
+    read_count(MAX_ITEMS)?;
+    skip_items(2)
+}
+
+// A hand back: whether it failed, and the emissions.
+fn skip_hand_back() -> Option<()> {
+    text_input::skip_words(STDIN_FILENO, 1)?;
+    skip_items(8)
 }
 
 // The arguments of a call.
-pub fn skip_call(tag: u64) -> bool {
+pub fn skip_call(tag: u64) -> Option<()> {
     match tag {
         0 => text_input::skip_words(STDIN_FILENO, 7),
         1 => text_input::skip_words(STDIN_FILENO, 3),
-        3 => text_input::skip_words(STDIN_FILENO, 1) && skip_items(8),
-        8 => text_input::skip_words(STDIN_FILENO, 3) && skip_places() && skip_items(2),
-        2 | 4 | 5 | 6 | 7 => true,
-        _ => false,
-    }
-}
-
-fn skip_next() -> bool {
-    match text_input::read_word(STDIN_FILENO) {
-        Next::Word(tag) => skip_call(tag),
-        Next::End => false,
+        3 => skip_hand_back(),
+        8 => skip_plan(),
+        2 | 4 | 5 | 6 | 7 => Some(()),
+        _ => None,
     }
 }
 
 // A number of calls, and the calls.
-pub fn skip_calls() -> bool {
-    let Next::Word(count) = text_input::read_word(STDIN_FILENO) else {
-        return false;
-    };
-    let mut left = count;
-    while 0 < left {
-        if !skip_next() {
-            return false;
-        }
-        left -= 1;
+pub fn skip_calls() -> Option<()> {
+    let count = text_input::read_word(STDIN_FILENO)?;
+    for _ in 0..count {
+        let tag = text_input::read_word(STDIN_FILENO)?;
+        skip_call(tag)?;
     }
-    true
+    Some(())
 }

@@ -12,39 +12,18 @@ ghost use Rattle.text_input.specs.Little.{word_at, word_of};
 // The descriptor of standard input.
 pub const STDIN_FILENO: i32 = 0;
 
+// The bytes of a word.
 const WORD: usize = 8;
 
 // How many words are read at a time: as many as io::buffer holds.
 const BLOCK: usize = 512;
-
-// The next word, where the file has a whole one.
-#[derive(Clone, Copy)]
-pub enum Next {
-    Word(u64),
-    End,
-}
-
-// The number whose lowest byte is b, with the others in `rest`.
-fn with_lowest(b: u8, rest: u64) -> u64
-    requires { rest < 72057594037927936 }
-    ensures value { result ≡ b + 256 * rest }
-    ensures upper_bound { result < 256 * rest + 256 }
-{
-    b as u64 + 256 * rest
-}
 
 // The word in the eight bytes from `at` on.
 pub fn word_at(bytes: &[u8], at: usize) -> u64
     requires { at + 8 ≤ length bytes.now }
     ensures { result ≡ word_at bytes.now at }
 {
-    let mut word: u64 = 0;
-    let mut i = WORD;
-    while 0 < i {
-        i -= 1;
-        word = with_lowest(bytes[at + i], word);
-    }
-    word
+    u64::from_le_bytes(*bytes[at..].first_chunk().unwrap())
 }
 
 // The first n words of the bytes go to the front of w.
@@ -52,17 +31,9 @@ pub fn decode(bytes: &[u8], n: usize, w: &mut [u64])
     requires { (8 * n ≤ length bytes.now) × (n ≤ length w.old) }
     ensures { w.new ≡ tab (word_of bytes.now) 0 n ++ drop n w.old }
 {
-    let mut i: usize = 0;
-    while i < n {
+    for i in 0..n {
         w[i] = word_at(bytes, WORD * i);
-        i += 1;
     }
-}
-
-fn min(a: usize, b: usize) -> usize
-    ensures { result ≡ min a b }
-{
-    if a < b { a } else { b }
 }
 
 // Reads to the front of w, by way of the lent bytes, and answers how many whole words came.
@@ -91,41 +62,40 @@ pub fn read_words(fd: i32, w: &mut [u64]) -> usize
     ensures { result ≤ length w.new }
 {
     let mut done: usize = 0;
-    while done < w.len() {
-        let end = done + min(w.len() - done, BLOCK);
-        let came = read_block(fd, &mut w[done..end]);
+    for block in w.chunks_mut(BLOCK) {
+        let came = read_block(fd, block);
         done += came;
-        if done < end {
+        if came < block.len() {
             return done;
         }
     }
     done
 }
 
-pub fn read_word(fd: i32) -> Next {
+// The next word, where the file has a whole one.
+pub fn read_word(fd: i32) -> Option<u64> {
     let mut word = [0u64; 1];
     if read_words(fd, &mut word) < 1 {
-        return Next::End;
+        return None;
     }
-    Next::Word(word[0])
+    Some(word[0])
 }
 
-fn skip_block(fd: i32, count: usize) -> bool
+fn skip_block(fd: i32, count: usize) -> Option<()>
     requires { count ≤ 512 }
 {
     let mut words = [0u64; BLOCK];
-    read_words(fd, &mut words[..count]) == count
+    if read_words(fd, &mut words[..count]) < count {
+        return None;
+    }
+    Some(())
 }
 
-// Reads so many words and forgets them. Whether there were so many.
-pub fn skip_words(fd: i32, count: u64) -> bool {
-    let mut left = count as usize;
-    while 0 < left {
-        let block = min(left, BLOCK);
-        if !skip_block(fd, block) {
-            return false;
-        }
-        left -= block;
+// Reads so many words and forgets them, where there are so many.
+pub fn skip_words(fd: i32, count: u64) -> Option<()> {
+    let blocks = count as usize / BLOCK;
+    for _ in 0..blocks {
+        skip_block(fd, BLOCK)?;
     }
-    true
+    skip_block(fd, count as usize % BLOCK)
 }

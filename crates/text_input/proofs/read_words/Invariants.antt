@@ -1,10 +1,6 @@
-use Prim.Native.Nat.{◌-◌, ◌≤◌}
-use mathlib.Core.Path.{◌≡◌}
-use lib.ListN.{length}
+use Rattle.std.proofs.Common.{◌≡◌, ◌+◌, length}
+use Rattle.std.specs.Slice.Iter.{chunks_mut_rest, chunks_mut_size}
 use Rattle.text_input.proofs.read_words.Given as goal
 
-abbrev pub invariant-loop-done : goal.invariant-loop-done
-invariant-loop-done l = (l.done ≤ length l.w) × (length l.w ≡ length l.initial.w)
-
-abbrev pub decreases-loop-done : goal.decreases-loop-done
-decreases-loop-done l = length l.w - l.done
+abbrev pub invariant-loop-block : goal.invariant-loop-block
+invariant-loop-block l = (chunks_mut_size l.block-iterator ≡ 512) × (l.done + length (chunks_mut_rest l.block-iterator) ≡ length l.fn.w)
