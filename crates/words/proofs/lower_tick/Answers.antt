@@ -1,5 +1,3 @@
-use native.Mathlib.Omega.{arith}
-use Prim.Native.Nat.{◌+◌}
 use borrow.Author.Rules.{rules}
 use Rattle.words.proofs.Ticks.{lower_falls, lower_no_fall, upper_falls, upper_no_fall}
 use Rattle.words.proofs.lower_tick.Goals as goal
@@ -14,5 +12,4 @@ pub returns-then-t-hi-2 : goal.returns-then-t-hi-2
 returns-then-t-hi-2 c = search (upper_falls, rules)
 
 pub returns-else-t-hi-2 : goal.returns-else-t-hi-2
-returns-else-t-hi-2 c =
-    upper_no_fall _ c.args.at _ (omega (arith, c.slice_known-3-1.given (c.args.at + 1))) (omega arith)
+returns-else-t-hi-2 c = search (upper_no_fall, rules)
