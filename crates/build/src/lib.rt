@@ -3,21 +3,19 @@
 
 #![tactic(auto)]
 
-ghost use Rattle.std.specs.Prelude.{◌≡◌, ◌≤◌};
+ghost use Rattle.std.specs.Prelude.{◌≡◌, ◌≤◌, Err};
 ghost use Rattle.types.specs.Value.{duration_of};
 ghost use Rattle.build_topology.specs.Checks.{refusal_of};
 ghost use Rattle.build.specs.Checks.{answer_of, answer_for, ChecksProcesses, ChecksTopology, ChecksBuild};
 ghost use Rattle.build.specs.Initialized.{CanInitialize, Initializes, empty_header};
 
-use build_ids::MissingRow;
-use build_topology::TopologyCheck;
+use build_topology::TopologyRefusal;
 use state::Header;
 use types::{LpId, SimDuration, SimTime};
 
-// What build answers.
+// Why build refuses: its rows' values come with each.
 #[derive(Clone, Copy)]
-pub enum BuildAnswer {
-    Accepted,
+pub enum BuildRefusal {
     InvalidPartitionCount(u64),
     InvalidLookahead,
     UnorderedProcesses,
@@ -31,42 +29,40 @@ pub enum BuildAnswer {
     InvalidEdgeLookahead,
 }
 
+// 7 to 10 and 40.
+impl From<TopologyRefusal> for BuildRefusal {
+    ghost from_gives = { λ fault why. answer_of (Err why) ≡ answer_for (refusal_of (Err fault)) };
+
+    fn from(fault: TopologyRefusal) -> BuildRefusal {
+        match fault {
+            TopologyRefusal::UnknownTopologySource(p) => BuildRefusal::UnknownTopologySource(p),
+            TopologyRefusal::UnknownTopologyDestination(p, d) =>
+                BuildRefusal::UnknownTopologyDestination(p, d),
+            TopologyRefusal::SelfLoop(p) => BuildRefusal::SelfLoop(p),
+            TopologyRefusal::DuplicateNeighbor(p, d) => BuildRefusal::DuplicateNeighbor(p, d),
+            TopologyRefusal::InvalidEdgeLookahead => BuildRefusal::InvalidEdgeLookahead,
+        }
+    }
+}
+
 // 1 to 4.
-fn check_processes(n: u64, lookahead: SimDuration, ids: &[u32]) -> BuildAnswer
+fn check_processes(n: u64, lookahead: SimDuration, ids: &[u32]) -> Result<(), BuildRefusal>
     ensures { ChecksProcesses n (duration_of lookahead) ids.now result }
 {
     if types::invalid_process_count(n) {
-        return BuildAnswer::InvalidPartitionCount(n);
+        return Err(BuildRefusal::InvalidPartitionCount(n));
     }
     if lookahead.is_zero() {
-        return BuildAnswer::InvalidLookahead;
+        return Err(BuildRefusal::InvalidLookahead);
     }
     if !build_ids::rising(ids) {
-        return BuildAnswer::UnorderedProcesses;
+        return Err(BuildRefusal::UnorderedProcesses);
     }
     let found = build_ids::check_ids(ids, n);
-    if found.missing == 0 {
-        if found.unexpected == 0 {
-            return BuildAnswer::Accepted;
-        }
+    if found.missing == 0 && found.unexpected == 0 {
+        return Ok(());
     }
-    BuildAnswer::ProcessSetMismatch(found.missing, found.unexpected)
-}
-
-// 7 to 10 and 40.
-fn answer_of(fault: TopologyCheck) -> BuildAnswer
-    ensures { answer_of result ≡ answer_for (refusal_of fault) }
-{
-    match fault {
-        TopologyCheck::Valid => BuildAnswer::Accepted,
-        TopologyCheck::UnknownTopologySource(p) => BuildAnswer::UnknownTopologySource(p),
-        TopologyCheck::UnknownTopologyDestination(p, d) => BuildAnswer::UnknownTopologyDestination(
-            p, d,
-        ),
-        TopologyCheck::SelfLoop(p) => BuildAnswer::SelfLoop(p),
-        TopologyCheck::DuplicateNeighbor(p, d) => BuildAnswer::DuplicateNeighbor(p, d),
-        TopologyCheck::InvalidEdgeLookahead => BuildAnswer::InvalidEdgeLookahead,
-    }
+    Err(BuildRefusal::ProcessSetMismatch(found.missing, found.unexpected))
 }
 
 // 5 to 10 and 40.
@@ -76,23 +72,18 @@ fn check_topology<'a>(
     counts: &'a [u64],
     destinations: &'a [u32],
     lookaheads: &'a [u64],
-) -> BuildAnswer
+) -> Result<(), BuildRefusal>
     requires { n ≤ 64 }
     ensures { ChecksTopology n sources.now counts.now destinations.now lookaheads.now result }
 {
     if !build_topology::rows_well_formed(sources, counts, destinations, lookaheads) {
-        return BuildAnswer::MalformedTopology;
+        return Err(BuildRefusal::MalformedTopology);
     }
-    match build_ids::least_without_row(sources, n) {
-        MissingRow::At(p) => BuildAnswer::MissingTopologyEntry(p),
-        MissingRow::Nothing => answer_of(build_topology::check_rows(
-            sources,
-            counts,
-            destinations,
-            lookaheads,
-            n,
-        )),
+    if let Some(p) = build_ids::least_without_row(sources, n) {
+        return Err(BuildRefusal::MissingTopologyEntry(p));
     }
+    build_topology::check_rows(sources, counts, destinations, lookaheads, n)?;
+    Ok(())
 }
 
 // 1 to 10 and 40.
@@ -104,15 +95,11 @@ pub fn check<'a>(
     counts: &'a [u64],
     destinations: &'a [u32],
     lookaheads: &'a [u64],
-) -> BuildAnswer
+) -> Result<(), BuildRefusal>
     ensures { ChecksBuild n (duration_of lookahead) ids.now sources.now counts.now destinations.now lookaheads.now result }
 {
-    let processes = check_processes(n, lookahead, ids);
-    if let BuildAnswer::Accepted = processes {
-        check_topology(n, sources, counts, destinations, lookaheads)
-    } else {
-        processes
-    }
+    check_processes(n, lookahead, ids)?;
+    check_topology(n, sources, counts, destinations, lookaheads)
 }
 
 // The header of an accepted build, its edges as words, and the record of their least inbound bounds.

@@ -1,4 +1,4 @@
-use Rattle.build.proofs.Checking.{wrong_count, no_lookahead, unordered, orderly, exactly, some_unexpected, some_missing}
+use Rattle.build.proofs.Checking.{wrong_count, no_lookahead, unordered, orderly, exactly, no_match}
 use Rattle.build.proofs.check_processes.Goals as goal
 
 pub returns-then-invalid_process_count : goal.returns-then-invalid_process_count
@@ -16,8 +16,5 @@ check_ids-found-requires c = search orderly depth 1
 pub returns-then-found-eq0-2 : goal.returns-then-found-eq0-2
 returns-then-found-eq0-2 c = search exactly depth 1
 
-pub returns-else-found-eq0-2 : goal.returns-else-found-eq0-2
-returns-else-found-eq0-2 c = search some_unexpected depth 1
-
-pub returns-else-found-eq0 : goal.returns-else-found-eq0
-returns-else-found-eq0 c = search some_missing depth 1
+pub returns : goal.returns
+returns c = search no_match depth 1
