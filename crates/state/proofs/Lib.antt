@@ -1,6 +1,5 @@
 pub mod Facts
 pub mod Moves
-pub mod Deciding
 pub mod Queueing
 pub mod Numbering
 pub mod LeftLent

@@ -1,9 +1,7 @@
 -- What the rows of a call answer before its work is done.
-use Rattle.std.specs.Prelude.{◌≡◌}
-use Rattle.state.specs.declared.Answer.{Answer}
-use Rattle.state.specs.declared.Answer.TheVariants as P
+use Rattle.std.specs.Prelude.{Result, MatchResult}
+use Rattle.state.specs.declared.Refusal.{Refusal}
 
--- Where no row decides, the answer is Accepted and A holds of it; else B does.
-pub record RefusalOr (a : Answer) (A B : Type 0) : Type 0 where
-  pub passed : a ≡ P.Accepted → A
-  pub refused : (a ≡ P.Accepted → ⊥) → B
+-- Where no row refuses, A holds; else B of the refusal does.
+abbrev pub RefusalOr : Result (Unit {0}) Refusal → Type 0 → (Refusal → Type 0) → Type 0
+RefusalOr r A B = MatchResult r (λ _. A) B

@@ -1,5 +1,5 @@
 -- Which state, counters and answers of the rules the program's are.
-use Rattle.std.specs.Prelude.{Bool, true, false, List, ℕ}
+use Rattle.std.specs.Prelude.{Bool, true, false, List, ℕ, Result, Ok, Err}
 use Rattle.types.specs.Value.{ticks_of, duration_of, lp_id_of}
 use Rattle.words.specs.Words.{horizons_of, inbounds_of}
 use Rattle.records.specs.Records.{payload_of, edges_of, events_of}
@@ -11,7 +11,9 @@ use Rattle.state.specs.declared.Runtime.{Runtime}
 use Rattle.state.specs.declared.Counters.{Counters}
 use Rattle.state.specs.declared.Message.{Message}
 use Rattle.state.specs.declared.Answer.{Answer}
-use Rattle.state.specs.declared.Answer.TheVariants as P
+use Rattle.state.specs.declared.Answer.TheVariants as D
+use Rattle.state.specs.declared.Refusal.{Refusal}
+use Rattle.state.specs.declared.Refusal.TheVariants as P
 
 -- "the stored horizon and budget if any"
 abbrev pub stored_of : Bool → ℕ → ℕ → Stored
@@ -50,33 +52,37 @@ message_of m = record { source = lp_id_of m.source; destination = lp_id_of m.des
 abbrev pub zero_counters : Counters
 zero_counters = record { processed_events = 0; emitted_events = 0; remote_events = 0; rounds = 0; null_messages = 0; worker_count = 0 }
 
+-- The rules' refusal that each refusal stands for.
+abbrev pub refusal_of : Refusal → A.Refusal
+refusal_of P.ForeignState = A.ForeignState
+refusal_of P.Poisoned = A.Poisoned
+refusal_of P.InitialEventsAlreadyClosed = A.InitialEventsAlreadyClosed
+refusal_of (P.UnknownInitialSource p) = A.UnknownInitialSource (lp_id_of p)
+refusal_of (P.UnknownInitialDestination p) = A.UnknownInitialDestination (lp_id_of p)
+refusal_of (P.InitialRouteMissing a b) = A.InitialRouteMissing (lp_id_of a) (lp_id_of b)
+refusal_of (P.PayloadTooLong k) = A.PayloadTooLong k
+refusal_of P.QueueFull = A.QueueFull
+refusal_of P.EventSequenceOverflow = A.EventSequenceOverflow
+refusal_of P.RunOpen = A.RunOpen
+refusal_of (P.HorizonRegression g h) = A.HorizonRegression (ticks_of g) (ticks_of h)
+refusal_of (P.HorizonOverflow h) = A.HorizonOverflow (ticks_of h)
+refusal_of P.NothingToStep = A.NothingToStep
+refusal_of (P.EventBudgetExceeded b) = A.EventBudgetExceeded b
+refusal_of P.NoBatch = A.NoBatch
+refusal_of P.MalformedReply = A.MalformedReply
+refusal_of (P.HandlerFailed p) = A.HandlerFailed (lp_id_of p)
+refusal_of (P.OutboundSourceMismatch p a) = A.OutboundSourceMismatch (lp_id_of p) (lp_id_of a)
+refusal_of (P.UnknownOutboundDestination b) = A.UnknownOutboundDestination (lp_id_of b)
+refusal_of (P.OutboundRouteMissing a b) = A.OutboundRouteMissing (lp_id_of a) (lp_id_of b)
+refusal_of (P.LookaheadOverflow p t l) = A.LookaheadOverflow (lp_id_of p) (ticks_of t) (duration_of l)
+refusal_of (P.OutboundLookaheadViolation p t u m) = A.OutboundLookaheadViolation (lp_id_of p) (ticks_of t) (ticks_of u) (ticks_of m)
+refusal_of (P.Straggler b u h) = A.Straggler (lp_id_of b) (ticks_of u) (ticks_of h)
+
 -- The rules' answer that each answer stands for, with the batch in hand after it.
-abbrev pub answer_of : List Event → Answer → A.Answer
-answer_of es P.Accepted = A.Accepted
-answer_of es (P.Batch g) = A.Batch es (ticks_of g)
-answer_of es (P.Advanced g) = A.Advanced (ticks_of g)
-answer_of es (P.Finished g) = A.Finished (ticks_of g)
-answer_of es (P.Committed g) = A.Committed (ticks_of g)
-answer_of es P.ForeignState = A.Refused A.ForeignState
-answer_of es P.Poisoned = A.Refused A.Poisoned
-answer_of es P.InitialEventsAlreadyClosed = A.Refused A.InitialEventsAlreadyClosed
-answer_of es (P.UnknownInitialSource p) = A.Refused (A.UnknownInitialSource (lp_id_of p))
-answer_of es (P.UnknownInitialDestination p) = A.Refused (A.UnknownInitialDestination (lp_id_of p))
-answer_of es (P.InitialRouteMissing a b) = A.Refused (A.InitialRouteMissing (lp_id_of a) (lp_id_of b))
-answer_of es (P.PayloadTooLong k) = A.Refused (A.PayloadTooLong k)
-answer_of es P.QueueFull = A.Refused A.QueueFull
-answer_of es P.EventSequenceOverflow = A.Refused A.EventSequenceOverflow
-answer_of es P.RunOpen = A.Refused A.RunOpen
-answer_of es (P.HorizonRegression g h) = A.Refused (A.HorizonRegression (ticks_of g) (ticks_of h))
-answer_of es (P.HorizonOverflow h) = A.Refused (A.HorizonOverflow (ticks_of h))
-answer_of es P.NothingToStep = A.Refused A.NothingToStep
-answer_of es (P.EventBudgetExceeded b) = A.Refused (A.EventBudgetExceeded b)
-answer_of es P.NoBatch = A.Refused A.NoBatch
-answer_of es P.MalformedReply = A.Refused A.MalformedReply
-answer_of es (P.HandlerFailed p) = A.Refused (A.HandlerFailed (lp_id_of p))
-answer_of es (P.OutboundSourceMismatch p a) = A.Refused (A.OutboundSourceMismatch (lp_id_of p) (lp_id_of a))
-answer_of es (P.UnknownOutboundDestination b) = A.Refused (A.UnknownOutboundDestination (lp_id_of b))
-answer_of es (P.OutboundRouteMissing a b) = A.Refused (A.OutboundRouteMissing (lp_id_of a) (lp_id_of b))
-answer_of es (P.LookaheadOverflow p t l) = A.Refused (A.LookaheadOverflow (lp_id_of p) (ticks_of t) (duration_of l))
-answer_of es (P.OutboundLookaheadViolation p t u m) = A.Refused (A.OutboundLookaheadViolation (lp_id_of p) (ticks_of t) (ticks_of u) (ticks_of m))
-answer_of es (P.Straggler b u h) = A.Refused (A.Straggler (lp_id_of b) (ticks_of u) (ticks_of h))
+abbrev pub answer_of : List Event → Result Answer Refusal → A.Answer
+answer_of es (Ok D.Accepted) = A.Accepted
+answer_of es (Ok (D.Batch g)) = A.Batch es (ticks_of g)
+answer_of es (Ok (D.Advanced g)) = A.Advanced (ticks_of g)
+answer_of es (Ok (D.Finished g)) = A.Finished (ticks_of g)
+answer_of es (Ok (D.Committed g)) = A.Committed (ticks_of g)
+answer_of es (Err r) = A.Refused (refusal_of r)

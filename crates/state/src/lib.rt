@@ -43,7 +43,7 @@ pub struct Runtime {
 }
 
 // The counters of the report.
-#[derive(Clone, Copy)]
+#[derive(Clone, Copy, Default)]
 pub struct Counters {
     pub processed_events: u64,
     pub emitted_events: u64,
@@ -65,8 +65,8 @@ pub struct Message {
     pub payload_lo: u64,
 }
 
-// What add initial, begin, step and hand back answer. The events of a batch are those in hand in the
-// state left. specs/Numbers.antt has document 01's number and values of each.
+// What add initial, begin, step and hand back answer where they don't refuse. The events of a batch are
+// those in hand in the state left.
 #[derive(Clone, Copy)]
 pub enum Answer {
     Accepted,
@@ -74,6 +74,11 @@ pub enum Answer {
     Advanced(SimTime),
     Finished(SimTime),
     Committed(SimTime),
+}
+
+// Why they refuse. specs/Numbers.antt has document 01's number and values of each.
+#[derive(Clone, Copy)]
+pub enum Refusal {
     ForeignState,
     Poisoned,
     InitialEventsAlreadyClosed,
@@ -102,14 +107,14 @@ pub enum Answer {
 // An answer and the header left with it.
 #[derive(Clone, Copy)]
 pub struct HeaderResult {
-    pub answer: Answer,
+    pub answer: Result<Answer, Refusal>,
     pub head: Header,
 }
 
 // What a step or a hand back gives: its answer, with the header and the counters left.
 #[derive(Clone, Copy)]
 pub struct CoreResult {
-    pub answer: Answer,
+    pub answer: Result<Answer, Refusal>,
     pub head: Header,
     pub counters: Counters,
 }
@@ -118,25 +123,14 @@ pub struct CoreResult {
 pub fn zero_counters() -> Counters
     ensures { result ≡ zero_counters }
 {
-    Counters {
-        processed_events: 0,
-        emitted_events: 0,
-        remote_events: 0,
-        rounds: 0,
-        null_messages: 0,
-        worker_count: 0,
-    }
+    Counters::default()
 }
 
 // "Counters, used among them, stop at 2^64 - 1."
 pub fn saturating_add(count: u64, by: u64) -> u64
     ensures { result ≡ saturating_add count by }
 {
-    let room = MAX_COUNT - count;
-    if room < by {
-        return MAX_COUNT;
-    }
-    count + by
+    count.saturating_add(by)
 }
 
 // 18: so many events more would not fit.
