@@ -1,6 +1,5 @@
-// Text for standard output, gathered in a buffer of io::buffer that the caller lends. `at` is how many
-// bytes of the buffer are in use; what each function puts there is proved, what is written to a file
-// cannot be said by a contract.
+// Text for standard output, gathered in a buffer. What each function puts there is proved, what is
+// written to a file cannot be said by a contract.
 
 #![tactic(auto)]
 
@@ -17,6 +16,14 @@ const STDOUT_FILENO: i32 = 1;
 
 // The bytes of a buffer.
 pub const ROOM: usize = 4096;
+
+// What is gathered: the first `len` bytes of the buffer. Kept without an invariant: `put` promises what
+// it did of any length, one above ROOM too.
+#[derive(Drop)]
+pub struct Gathered {
+    pub bytes: [u8; ROOM],
+    pub len: usize,
+}
 
 // The hexadecimal digits of a tick, in lower case and without leading zeros, at the start of out;
 // how many there are.
@@ -46,86 +53,95 @@ fn join(first: &[u8], second: &[u8; 16], out: &mut [u8]) -> usize
     at + byte_copy::copy(second, &mut out[at..])
 }
 
-// The text goes behind what is there. Where it does not fit, what is there is written first.
-fn append(out: &mut [u8], at: usize, text: &[u8]) -> usize
-    ensures { Puts out.old at text.now out.new result }
-{
-    if out.len() < at {
-        return put_at_start(out, text);
+impl Gathered {
+    pub fn new() -> Gathered
+        ensures { result.len ≡ 0 }
+    {
+        Gathered {
+            bytes: io::buffer(),
+            len: 0,
+        }
     }
-    if out.len() - at < text.len() {
-        io::write_all(STDOUT_FILENO, &out[..at]);
-        return put_at_start(out, text);
+
+    // The text goes behind what is there. Where it does not fit, what is there is written first.
+    pub fn put(&mut self, text: &[u8])
+        ensures { Puts self.old.bytes self.old.len text.now self.new.bytes self.new.len }
+    {
+        if ROOM < self.len {
+            return self.put_at_start(text);
+        }
+        if ROOM - self.len < text.len() {
+            self.write();
+            return self.put_at_start(text);
+        }
+        self.len += byte_copy::copy(text, &mut self.bytes[self.len..]);
     }
-    at + byte_copy::copy(text, &mut out[at..])
-}
 
-// The text goes to the front. Where it has no room there either, it is written at once.
-fn put_at_start(out: &mut [u8], text: &[u8]) -> usize
-    ensures { result ≤ length out.new }
-{
-    if out.len() < text.len() {
-        io::write_all(STDOUT_FILENO, text);
-        return 0;
+    // The text goes to the front. Where it has no room there either, it is written at once.
+    fn put_at_start(&mut self, text: &[u8])
+        ensures same { length self.new.bytes ≡ length self.old.bytes }
+        ensures within { self.new.len ≤ length self.new.bytes }
+    {
+        self.len = if text.len() <= ROOM {
+            byte_copy::copy(text, &mut self.bytes)
+        } else {
+            io::write_all(STDOUT_FILENO, text);
+            0
+        };
     }
-    byte_copy::copy(text, out)
-}
 
-// A buffer is lent as an array, which is one reference: each call of its users is cheaper to check.
-pub fn put(out: &mut [u8; ROOM], at: usize, text: &[u8]) -> usize
-    ensures { Puts out.old at text.now out.new result }
-{
-    append(out, at, text)
-}
-
-pub fn put_byte(out: &mut [u8; ROOM], at: usize, b: u8) -> usize
-    ensures { Puts out.old at (b ∷ []) out.new result }
-{
-    let text = [b];
-    put(out, at, &text)
-}
-
-pub fn put_decimal(out: &mut [u8; ROOM], at: usize, n: u64) -> usize
-    ensures { PutsNumber 10 n out.old at out.new result }
-{
-    let mut text = [0u8; 20];
-    let k = io::decimal(n, &mut text);
-    put(out, at, &text[..k])
-}
-
-pub fn put_tick(out: &mut [u8; ROOM], at: usize, t: SimTime) -> usize
-    ensures { PutsNumber 16 (ticks_of t) out.old at out.new result }
-{
-    let mut text = [0u8; 32];
-    let k = tick_digits(t, &mut text);
-    put(out, at, &text[..k])
-}
-
-// The next number of a list, behind what separates it.
-pub fn put_next(out: &mut [u8; ROOM], at: usize, separator: u8, n: u64) -> usize
-    ensures { PutsNext separator 10 n out.old at out.new result }
-{
-    let end = put_byte(out, at, separator);
-    put_decimal(out, end, n)
-}
-
-pub fn put_next_tick(out: &mut [u8; ROOM], at: usize, separator: u8, t: SimTime) -> usize
-    ensures { PutsNext separator 16 (ticks_of t) out.old at out.new result }
-{
-    let end = put_byte(out, at, separator);
-    put_tick(out, end, t)
-}
-
-// Writes what is there.
-fn write(out: &[u8], at: usize) -> bool {
-    if at <= out.len() {
-        return io::write_all(STDOUT_FILENO, &out[..at]);
+    pub fn put_byte(&mut self, b: u8)
+        ensures { Puts self.old.bytes self.old.len (b ∷ []) self.new.bytes self.new.len }
+    {
+        self.put(&[b]);
     }
-    false
-}
 
-// Ends the line and writes what is there. Nothing is left: the next `at` is 0.
-pub fn end_line(out: &mut [u8; ROOM], at: usize) -> bool {
-    let end = put_byte(out, at, b'\n');
-    write(out, end)
+    pub fn put_decimal(&mut self, n: u64)
+        ensures { PutsNumber 10 n self.old.bytes self.old.len self.new.bytes self.new.len }
+    {
+        let mut text = [0u8; 20];
+        let k = io::decimal(n, &mut text);
+        self.put(&text[..k]);
+    }
+
+    pub fn put_tick(&mut self, t: SimTime)
+        ensures { PutsNumber 16 (ticks_of t) self.old.bytes self.old.len self.new.bytes self.new.len }
+    {
+        let mut text = [0u8; 32];
+        let k = tick_digits(t, &mut text);
+        self.put(&text[..k]);
+    }
+
+    // The next number of a list, behind what separates it.
+    pub fn put_next(&mut self, separator: u8, n: u64)
+        ensures { PutsNext separator 10 n self.old.bytes self.old.len self.new.bytes self.new.len }
+    {
+        self.put_byte(separator);
+        self.put_decimal(n);
+    }
+
+    pub fn put_next_tick(&mut self, separator: u8, t: SimTime)
+        ensures { PutsNext separator 16 (ticks_of t) self.old.bytes self.old.len self.new.bytes self.new.len }
+    {
+        self.put_byte(separator);
+        self.put_tick(t);
+    }
+
+    // Writes what is there.
+    fn write(&self) -> bool {
+        if self.len <= ROOM {
+            return io::write_all(STDOUT_FILENO, &self.bytes[..self.len]);
+        }
+        false
+    }
+
+    // Ends the line and writes what is there. Nothing is left.
+    pub fn end_line(&mut self) -> bool
+        ensures { self.new.len ≡ 0 }
+    {
+        self.put_byte(b'\n');
+        let written = self.write();
+        self.len = 0;
+        written
+    }
 }

@@ -7,15 +7,6 @@ use Rattle.text_output.proofs.Hex.{most_digits, short, long}
 use borrow.Author.Rules.{rules}
 use Rattle.text_output.proofs.tick_digits.Goals as goal
 
-pub copy-requires : goal.copy-requires
-copy-requires c =
-    let e = c.args in
-    let q = c.hex-k in
-    let l : length e.out.now ≡ 32 = search rules in
-    let m : q.result ≤ 16 = most_digits e.t.lo q.result 1 (omega arith) (omega arith) q.ensures.len in
-    let g = length-take-le q.result q.new.out q.ensures.in_bounds.0 in
-    omega arith
-
 pub returns-then-t-eq0 : goal.returns-then-t-eq0
 returns-then-t-eq0 c =
     let e = c.args in
@@ -26,15 +17,6 @@ returns-then-t-eq0 c =
     let g = length-take-le q.result q.new.out q.ensures.in_bounds.0 in
     let told = short e.t q.result p.result q.new.out e.out.now p.new.out (omega arith) q.ensures.in_bounds.0 q.ensures.len q.ensures.digits p.ensures.value p.ensures.out_after p.auto.out (omega arith) in
     record { prefix_len = told.0; digit_count = told.1.0; out_after = told.1.1 }
-
-pub join-requires : goal.join-requires
-join-requires c =
-    let e = c.args in
-    let q = c.hex-k-2 in
-    let l : length e.out.now ≡ 32 = search rules in
-    let m : q.result ≤ 16 = most_digits e.t.hi q.result 1 (omega arith) (omega arith) q.ensures.len in
-    let g = length-take-le q.result q.new.out q.ensures.in_bounds.0 in
-    omega arith
 
 pub returns : goal.returns
 returns c =

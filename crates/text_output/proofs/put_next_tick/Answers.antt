@@ -1,9 +1,0 @@
-use Rattle.types.specs.Value.{ticks_of}
-use Rattle.text_output.proofs.Behind.{put_next}
-use Rattle.text_output.proofs.put_next_tick.Goals as goal
-
-pub returns : goal.returns
-returns c =
-    let e = c.args in
-    let q = c.put_byte-end in
-    put_next e.separator 16 (ticks_of e.t) e.out.now q.new.out _ e.at q.result _ q.ensures c.put_tick.ensures
