@@ -1,5 +1,4 @@
 pub mod Pairs
 pub mod Order
-pub mod Merging
-pub mod Halves
+pub mod Sorting
 pub mod Duplicates

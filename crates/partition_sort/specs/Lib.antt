@@ -1,3 +1,2 @@
 pub mod Entities
-pub mod Merge
 pub mod Duplicates
