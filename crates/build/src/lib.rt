@@ -9,7 +9,7 @@ ghost use Rattle.build_topology.specs.Checks.{refusal_of};
 ghost use Rattle.build.specs.Checks.{answer_of, answer_for, ChecksProcesses, ChecksTopology, ChecksBuild};
 ghost use Rattle.build.specs.Initialized.{CanInitialize, Initializes, empty_header};
 
-use build_topology::TopologyRefusal;
+use build_topology::{Rows, TopologyRefusal};
 use state::Header;
 use types::{LpId, SimDuration, SimTime};
 
@@ -66,62 +66,50 @@ fn check_processes(n: u64, lookahead: SimDuration, ids: &[u32]) -> Result<(), Bu
 }
 
 // 5 to 10 and 40.
-fn check_topology<'a>(
-    n: u64,
-    sources: &'a [u32],
-    counts: &'a [u64],
-    destinations: &'a [u32],
-    lookaheads: &'a [u64],
-) -> Result<(), BuildRefusal>
+fn check_topology(n: u64, rows: Rows<'_>) -> Result<(), BuildRefusal>
     requires { n ≤ 64 }
-    ensures { ChecksTopology n sources.now counts.now destinations.now lookaheads.now result }
+    ensures { ChecksTopology n rows.entry.sources.now rows.entry.counts.now rows.entry.destinations.now rows.entry.lookaheads.now result }
 {
-    if !build_topology::rows_well_formed(sources, counts, destinations, lookaheads) {
+    if !rows.is_well_formed() {
         return Err(BuildRefusal::MalformedTopology);
     }
-    if let Some(p) = build_ids::least_without_row(sources, n) {
+    if let Some(p) = build_ids::least_without_row(rows.sources, n) {
         return Err(BuildRefusal::MissingTopologyEntry(p));
     }
-    build_topology::check_rows(sources, counts, destinations, lookaheads, n)?;
+    rows.check(n)?;
     Ok(())
 }
 
 // 1 to 10 and 40.
-pub fn check<'a>(
+pub fn check(
     n: u64,
     lookahead: SimDuration,
-    ids: &'a [u32],
-    sources: &'a [u32],
-    counts: &'a [u64],
-    destinations: &'a [u32],
-    lookaheads: &'a [u64],
+    ids: &[u32],
+    rows: Rows<'_>,
 ) -> Result<(), BuildRefusal>
-    ensures { ChecksBuild n (duration_of lookahead) ids.now sources.now counts.now destinations.now lookaheads.now result }
+    ensures { ChecksBuild n (duration_of lookahead) ids.now rows.entry.sources.now rows.entry.counts.now rows.entry.destinations.now rows.entry.lookaheads.now result }
 {
     check_processes(n, lookahead, ids)?;
-    check_topology(n, sources, counts, destinations, lookaheads)
+    check_topology(n, rows)
 }
 
 // The header of an accepted build, its edges as words, and the record of their least inbound bounds.
-pub fn initialize<'a>(
+pub fn initialize(
     n: u64,
     lookahead: SimDuration,
-    sources: &'a [u32],
-    counts: &'a [u64],
-    destinations: &'a [u32],
-    lookaheads: &'a [u64],
+    rows: Rows<'_>,
     edges: &mut [u64],
     processes: &mut [u64],
 ) -> Header
-    requires { CanInitialize n (duration_of lookahead) sources.now counts.now destinations.now lookaheads.now edges.old processes.old }
-    ensures { Initializes n (duration_of lookahead) sources.now counts.now destinations.now lookaheads.now edges.old edges.new processes.new result }
+    requires { CanInitialize n (duration_of lookahead) rows.sources.now rows.counts.now rows.destinations.now rows.lookaheads.now edges.old processes.old }
+    ensures { Initializes n (duration_of lookahead) rows.entry.sources.now rows.entry.counts.now rows.entry.destinations.now rows.entry.lookaheads.now edges.old edges.new processes.new result }
 {
-    build_edges::write_edges(sources, counts, destinations, lookaheads, edges);
-    inbound::record_inbound(edges, destinations.len(), n as usize, processes);
+    build_edges::write_edges(rows, edges);
+    inbound::record_inbound(edges, rows.destinations.len(), n as usize, processes);
     Header {
         n: n as usize,
         lookahead: lookahead,
-        edges: destinations.len(),
+        edges: rows.destinations.len(),
         pending: 0,
         batch: 0,
         next: 0,

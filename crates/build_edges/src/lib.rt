@@ -9,55 +9,40 @@ ghost use Rattle.types.specs.Value.{duration_of, lp_id_of};
 ghost use Rattle.build_topology.specs.Lookaheads.{targets_for};
 ghost use Rattle.build_edges.specs.Written.{new_edge, WritesRow, Writable, WritesEdges};
 
+use build_topology::Rows;
 use types::{LpId, SimDuration, SimTime};
 
 // All rows.
-pub fn write_edges<'a>(
-    sources: &'a [u32],
-    counts: &'a [u64],
-    destinations: &'a [u32],
-    lookaheads: &'a [u64],
-    edges: &mut [u64],
-)
-    requires { Writable sources.now counts.now destinations.now lookaheads.now edges.old }
-    ensures { WritesEdges sources.now counts.now destinations.now lookaheads.now edges.old edges.new }
+pub fn write_edges(rows: Rows<'_>, edges: &mut [u64])
+    requires { Writable rows.sources.now rows.counts.now rows.destinations.now rows.lookaheads.now edges.old }
+    ensures { WritesEdges rows.entry.sources.now rows.entry.counts.now rows.entry.destinations.now rows.entry.lookaheads.now edges.old edges.new }
 {
     let mut at: usize = 0;
-    let mut i: usize = 0;
-    while i < sources.len() {
-        let source = LpId(sources[i]);
-        let end = at + counts[i] as usize;
+    for (i, &id) in rows.sources.iter().enumerate() {
+        let source = LpId(id);
+        let end = at + rows.counts[i] as usize;
         let low = 2 * at;
         let high = 2 * end;
         write_row(
-            &destinations[at..end],
-            &lookaheads[low..high],
+            &rows.destinations[at..end],
+            &rows.lookaheads[low..high],
             source,
             edges,
             at,
         );
         at = end;
-        i += 1;
     }
 }
 
 // One row, behind the first `at` edges.
-fn write_row<'a>(
-    destinations: &'a [u32],
-    lookaheads: &'a [u64],
-    source: LpId,
-    edges: &mut [u64],
-    at: usize,
-)
+fn write_row(destinations: &[u32], lookaheads: &[u64], source: LpId, edges: &mut [u64], at: usize)
     requires { (length lookaheads.now ≡ 2 * length destinations.now) × (6 * (at + length destinations.now) ≤ length edges.old) }
     ensures { WritesRow at (map (edge_to (lp_id_of source)) (targets_for destinations.now lookaheads.now)) edges.old edges.new }
 {
-    let mut i: usize = 0;
-    while i < destinations.len() {
-        let destination = LpId(destinations[i]);
+    for (i, &id) in destinations.iter().enumerate() {
+        let destination = LpId(id);
         let lookahead = words::duration_in(lookaheads, 2 * i);
         put_edge(edges, at + i, source, destination, lookahead);
-        i += 1;
     }
 }
 

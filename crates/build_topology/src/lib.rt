@@ -26,6 +26,65 @@ pub enum TopologyRefusal {
     InvalidEdgeLookahead,
 }
 
+// The rows as a host lends them: a count for each source, and two words of lookahead for each destination.
+#[derive(Clone, Copy)]
+pub struct Rows<'a> {
+    pub sources: &'a [u32],
+    pub counts: &'a [u64],
+    pub destinations: &'a [u32],
+    pub lookaheads: &'a [u64],
+}
+
+impl<'a> Rows<'a> {
+    // 5: whether the lists are rows at all.
+    pub fn is_well_formed(self) -> bool
+        ensures { RowsWellFormed self.entry.sources.now self.entry.counts.now self.entry.destinations.now self.entry.lookaheads.now result }
+    {
+        if self.sources.len() != self.counts.len() {
+            return false;
+        }
+        if !rising(self.sources) {
+            return false;
+        }
+        if !sums_to(self.counts, self.destinations.len()) {
+            return false;
+        }
+        if MAX_EDGES < self.destinations.len() {
+            return false;
+        }
+        self.lookaheads.len() == 2 * self.destinations.len()
+    }
+
+    // 7 to 10 and 40, row by row.
+    pub fn check(self, n: u64) -> Result<(), TopologyRefusal>
+        requires { RowsPassed n self.sources.now self.counts.now self.destinations.now self.lookaheads.now }
+        ensures { refusal_of result ≡ first_refusal (topology_rows n self.entry.sources.now self.entry.counts.now (targets_for self.entry.destinations.now self.entry.lookaheads.now)) }
+    {
+        let mut marks = [0u64; 64];
+        let mut at: usize = 0;
+        for (i, &id) in self.sources.iter().enumerate() {
+            let source = LpId(id);
+            if n <= source.to_word() {
+                return Err(TopologyRefusal::UnknownTopologySource(source));
+            }
+            let end = at + self.counts[i] as usize;
+            let stamp = i as u64 + 1;
+            let low = 2 * at;
+            let high = 2 * end;
+            check_row(
+                &self.destinations[at..end],
+                &self.lookaheads[low..high],
+                source,
+                n,
+                &mut marks,
+                stamp,
+            )?;
+            at = end;
+        }
+        Ok(())
+    }
+}
+
 // 5: whether the counts add up to the total, by what is left of it. The sum may be above 2^64.
 pub fn sums_to(counts: &[u64], total: usize) -> bool
     ensures { result ≡ eqb (sum counts.now) total }
@@ -40,35 +99,11 @@ pub fn sums_to(counts: &[u64], total: usize) -> bool
     left == 0
 }
 
-// 5: whether the lists are rows at all.
-pub fn rows_well_formed<'a>(
-    sources: &'a [u32],
-    counts: &'a [u64],
-    destinations: &'a [u32],
-    lookaheads: &'a [u64],
-) -> bool
-    ensures { RowsWellFormed sources.now counts.now destinations.now lookaheads.now result }
-{
-    if sources.len() != counts.len() {
-        return false;
-    }
-    if !rising(sources) {
-        return false;
-    }
-    if !sums_to(counts, destinations.len()) {
-        return false;
-    }
-    if MAX_EDGES < destinations.len() {
-        return false;
-    }
-    lookaheads.len() == 2 * destinations.len()
-}
-
 // 8, 9, 10 and 40 of one row. `marks[d] == stamp` says that d was met in this row; earlier rows had
 // lesser stamps, so that nothing is cleared between rows.
-fn check_row<'a>(
-    destinations: &'a [u32],
-    lookaheads: &'a [u64],
+fn check_row(
+    destinations: &[u32],
+    lookaheads: &[u64],
     source: LpId,
     n: u64,
     marks: &mut [u64],
@@ -96,41 +131,6 @@ fn check_row<'a>(
             return Err(TopologyRefusal::InvalidEdgeLookahead);
         }
         marks[k] = stamp;
-    }
-    Ok(())
-}
-
-// 7 to 10 and 40, row by row.
-pub fn check_rows<'a>(
-    sources: &'a [u32],
-    counts: &'a [u64],
-    destinations: &'a [u32],
-    lookaheads: &'a [u64],
-    n: u64,
-) -> Result<(), TopologyRefusal>
-    requires { RowsPassed n sources.now counts.now destinations.now lookaheads.now }
-    ensures { refusal_of result ≡ first_refusal (topology_rows n sources.now counts.now (targets_for destinations.now lookaheads.now)) }
-{
-    let mut marks = [0u64; 64];
-    let mut at: usize = 0;
-    for (i, &id) in sources.iter().enumerate() {
-        let source = LpId(id);
-        if n <= source.to_word() {
-            return Err(TopologyRefusal::UnknownTopologySource(source));
-        }
-        let end = at + counts[i] as usize;
-        let stamp = i as u64 + 1;
-        let low = 2 * at;
-        let high = 2 * end;
-        check_row(
-            &destinations[at..end],
-            &lookaheads[low..high],
-            source,
-            n,
-            &mut marks,
-            stamp,
-        )?;
-        at = end;
     }
     Ok(())
 }

@@ -1,6 +1,6 @@
 use mathlib.Core.Path.{◌≡◌}
 use mathlib.Core.List.{map}
-use Prim.Native.Nat.{◌≤◌, ◌-◌}
+use Prim.Native.Nat.{◌≤◌}
 use lib.ListN.{length, take}
 use Rattle.rules.specs.Build.{edge_to}
 use Rattle.types.specs.Value.{lp_id_of}
@@ -10,6 +10,3 @@ use Rattle.build_edges.proofs.write_row.Given as goal
 
 abbrev pub invariant-loop-i : goal.invariant-loop-i
 invariant-loop-i l = (l.i ≤ length l.destinations) × (length l.edges ≡ length l.initial.edges) × WritesRow l.at (map (edge_to (lp_id_of l.source)) (take l.i (targets_for l.destinations l.lookaheads))) l.initial.edges l.edges
-
-abbrev pub decreases-loop-i : goal.decreases-loop-i
-decreases-loop-i l = length l.destinations - l.i

@@ -2,7 +2,7 @@ use mathlib.Core.Path.{refl}
 use native.Mathlib.Omega.{arith}
 use Rattle.std.proofs.lemmas.Result.{err_from_is_err_and}
 use Rattle.build_topology.proofs.Decided.{turned_none, turned_all, turned_ready, turned_fits, turned_unknown, turned_refused, turned_sound}
-use Rattle.build_topology.proofs.check_rows.Goals as goal
+use Rattle.build_topology.proofs.Rows.check.Goals as goal
 
 pub loop-i-init : goal.loop-i-init
 loop-i-init c = search turned_none depth 1
