@@ -8,9 +8,11 @@ ghost use Rattle.words.specs.Words.{inbounds_of};
 ghost use Rattle.rules.specs.Base.{up_to, any, any_of};
 ghost use Rattle.rules.specs.Foreign.{horizon_is_max};
 ghost use Rattle.records.specs.Records.{edges_of, events_of};
+ghost use Rattle.state.specs.View.{view_of};
+ghost use Rattle.foreign.specs.Checks.{ChecksForeign};
 ghost use Rattle.foreign.specs.Tests.{size_tests, count_tests, stored_in, run_tests, header_tests, differs_at, edge_tests, pending_tests, batch_tests, IsForeign};
 
-use state::Header;
+use state::{Header, Refusal, Runtime};
 use types::{MAX_EDGES, MAX_PENDING, MAX_PROCESSES, SimTime};
 
 // Of the process count and the lookahead.
@@ -162,4 +164,21 @@ pub fn is_foreign<'a>(
         return true;
     }
     invalid_batch(batch, head.batch, n)
+}
+
+// The same of a runtime by value, for calls that pass the refusal on.
+#[tactic(auto, using(crate::proofs::Grouped::foreign_is))]
+pub fn check(state: &Runtime) -> Result<(), Refusal>
+    ensures { ChecksForeign (view_of state.now) result }
+{
+    if is_foreign(
+        state.head,
+        &state.edges,
+        &state.pending,
+        &state.processes,
+        &state.batch,
+    ) {
+        return Err(Refusal::ForeignState);
+    }
+    Ok(())
 }
