@@ -39,13 +39,13 @@ ticks_end w n i m k h e =
     let t : event_ticks (events_of n w) ≡ tab (λ j. tick_at w (8 * j + 1)) 0 n = map_tab (λ (x : Event). x.tick) (event_at w) 0 n ∙ tab_cong _ _ 0 n (λ j a b. event_tick w j) in
     least_end (λ j. tick_at w (8 * j + 1)) n i m k h e ∙ ap (least m) (sym t)
 
--- Event i against the record r of the next.
-module _ (w : List ℕ) (n i : ℕ) (r : Record) (b : Bool) (h : i + 1 < n) (s : Climbing before (event_at w) n i) (e : r ≡ record_in w (8 * (i + 1))) (q : b ≡ before (event_at w i) (event_of r)) where
-  tested : (t : Bool) → b ≡ t → before (event_at w i) (event_at w (i + 1)) ≡ t
-  tested t g = ap (before (event_at w i)) (event_read w (i + 1) r e) ∙ sym q ∙ g
+-- The event in front of i against the record r of event i.
+module _ (w : List ℕ) (n i : ℕ) (r : Record) (b : Bool) (p : 0 < i) (h : i < n) (s : Climbing before (event_at w) n i) (e : r ≡ record_in w (8 * i)) (q : b ≡ before (event_at w (i - 1)) (event_of r)) where
+  tested : (t : Bool) → b ≡ t → before (event_at w (i - 1)) (event_at w i) ≡ t
+  tested t g = ap (before (event_at w (i - 1))) (event_read w i r e) ∙ sym q ∙ g
 
   pub next_passed : not b ≡ false → Climbing before (event_at w) n (i + 1)
-  next_passed g = climbing_more before (event_at w) n i h s (tested true (not-false b g))
+  next_passed g = climbing_more before (event_at w) n i p h s (tested true (not-false b g))
 
   pub next_stops : not b ≡ true → false ≡ rising before (events_of n w)
-  next_stops g = climbing_stop before (event_at w) n i h s (tested false (not-true b g))
+  next_stops g = climbing_stop before (event_at w) n i p h s (tested false (not-true b g))

@@ -47,24 +47,27 @@ module _ {A : Type 0} (before : A → A → Bool) (f : ℕ → A) where
   short i (suc zero) h = refl
   short i (suc (suc m)) h = absurd (omega arith)
 
+  -- The pairs that end below i, from 1 on, rise: what is left says what all say.
   module _ (n : ℕ) where
     pub record Climbing (i : ℕ) : Type 0 where
-      pub within : i ≤ n
-      pub rest : rising before (tab f i (n - i)) ≡ rising before (tab f 0 n)
+      pub rest : rising before (tab f (i - 1) (n - (i - 1))) ≡ rising before (tab f 0 n)
 
-    pub climbing_start : Climbing 0
-    climbing_start = record { within = omega arith; rest = rw (tab_whole f 0 n refl) }
+    pub climbing_start : Climbing 1
+    climbing_start = record { rest = rw (tab_whole f 0 n refl) }
 
-    module _ (i : ℕ) (h : i + 1 < n) (s : Climbing i) where
-      above : before (f i) (f (i + 1)) && rising before (tab f (i + 1) (n - (i + 1))) ≡ rising before (tab f 0 n)
+    module _ (i : ℕ) (p : 0 < i) (h : i < n) (s : Climbing i) where
+      above : before (f (i - 1)) (f i) && rising before (tab f i (n - i)) ≡ rising before (tab f 0 n)
       unfolding rising
-      above = let k : i < n = omega arith in rw (tab_next f (i + 1) n h) (rw (tab_next f i n k, tab_next f (i + 1) n h) at s.rest)
+      above =
+          let k : i - 1 < n = omega arith in
+          let e : i - 1 + 1 ≡ i = omega arith in
+          rw (tab_next f i n h) (rw (tab_next f (i - 1) n k, e, tab_next f i n h) at s.rest)
 
-      pub climbing_more : before (f i) (f (i + 1)) ≡ true → Climbing (i + 1)
-      climbing_more t = record { within = omega arith; rest = rw t at above }
+      pub climbing_more : before (f (i - 1)) (f i) ≡ true → Climbing (i + 1)
+      climbing_more t = let e : i + 1 - 1 ≡ i = omega arith in record { rest = rw e (rw t at above) }
 
-      pub climbing_stop : before (f i) (f (i + 1)) ≡ false → false ≡ rising before (tab f 0 n)
+      pub climbing_stop : before (f (i - 1)) (f i) ≡ false → false ≡ rising before (tab f 0 n)
       climbing_stop t = rw t at above
 
-    pub climbing_end : (i : ℕ) → n ≤ i + 1 → Climbing i → true ≡ rising before (tab f 0 n)
-    climbing_end i h s = sym (short i (n - i) (omega arith)) ∙ s.rest
+    pub climbing_end : (i : ℕ) → n ≤ i → Climbing i → true ≡ rising before (tab f 0 n)
+    climbing_end i h s = sym (short (i - 1) (n - (i - 1)) (omega arith)) ∙ s.rest
