@@ -7,6 +7,7 @@ use native.Mathlib.Omega.{arith}
 use lib.Dec.{eqb}
 use lib.ListN.{length, get_or, get_or-eq_default}
 use borrow.Author.Tests.{lt-ltb, le-ltb, ltb-false, ne_eqb, eqb-true, eqb-false}
+use Rattle.std.specs.Prelude.{Option, None, Some, MatchOption}
 use Rattle.rules.specs.Base.{if◌then◌otherwise◌}
 use Rattle.rules.specs.Calls.{Call, AddInitial, Begin, Step}
 use Rattle.rules.proofs.Tests.{by_test, by_bool}
@@ -17,7 +18,7 @@ use Rattle.types.proofs.Halves.{lt_or_ge}
 use Rattle.words.specs.Words.{tick_at}
 use Rattle.records.specs.Records.{payload_of}
 use Rattle.state.specs.View.{message_of}
-use Rattle.call_words.specs.Decode.{Decoded, Nothing, Decodes, message_at, if_complete, hand_back_at, max_items, hand_back_in, decode, size, Sizes, call_of}
+use Rattle.call_words.specs.Decode.{Decoded, Nothing, Decodes, message_at, if_complete, hand_back_at, max_items, hand_back_in, decode, size, IsSizeOf, Sizes, call_of}
 
 module _ (w : List ℕ) (at : ℕ) where
   broken : (k : Call) (n : ℕ) → length w < at + n → if_complete w at k n ≡ Nothing
@@ -56,23 +57,31 @@ module _ (w : List ℕ) (at : ℕ) where
     unfolding decode if◌then◌otherwise◌
     tag_other n3 = rw (ne_eqb (get_or w at 0) 0 n0, ne_eqb (get_or w at 0) 1 n1, ne_eqb (get_or w at 0) 2 n2, ne_eqb (get_or w at 0) 3 n3)
 
-    pub size_other : (get_or w at 0 ≡ 3 → ⊥) → 0 ≡ size (decode w at)
-    size_other n3 = sym (ap size (tag_other n3))
+    pub size_other : (get_or w at 0 ≡ 3 → ⊥) → size (decode w at) ≡ 0
+    size_other n3 = ap size (tag_other n3)
 
-  pub size_past : length w ≤ at → 0 ≡ size (decode w at)
-  size_past h = size_broken 8 (omega arith) _ ∙ sym (ap size (tag_0 (get_or-eq_default w 0 h)))
+  pub size_past : length w ≤ at → size (decode w at) ≡ 0
+  size_past h = ap size (tag_0 (get_or-eq_default w 0 h)) ∙ sym (size_broken 8 (omega arith) _)
 
-  pub size_0 : (r : ℕ) → get_or w at 0 ≡ 0 → Sizes w at 8 r → r ≡ size (decode w at)
-  size_0 r e f = f _ ∙ sym (ap size (tag_0 e))
+  -- What complete_size promises, of a call of n words.
+  abbrev pub IsComplete : Option ℕ → ℕ → Type 0
+  IsComplete r n = MatchOption r (Sizes w at n 0) (λ m. (m ≡ n) × Sizes w at n m)
 
-  pub size_1 : (r : ℕ) → get_or w at 0 ≡ 1 → Sizes w at 4 r → r ≡ size (decode w at)
-  size_1 r e f = f _ ∙ sym (ap size (tag_1 e))
+  whole : (k : Call) (n : ℕ) (r : Option ℕ) → 0 < n → decode w at ≡ if_complete w at k n → IsComplete r n → IsSizeOf r (decode w at)
+  whole k n None l e f = ap size e ∙ sym (f k)
+  whole k n (Some m) l e f = let p : m ≡ n = f.0 in (omega arith, f.1 k ∙ sym (ap size e))
+
+  pub size_0 : (r : Option ℕ) → get_or w at 0 ≡ 0 → IsComplete r 8 → IsSizeOf r (decode w at)
+  size_0 r e = whole _ 8 r (omega arith) (tag_0 e)
+
+  pub size_1 : (r : Option ℕ) → get_or w at 0 ≡ 1 → IsComplete r 4 → IsSizeOf r (decode w at)
+  size_1 r e = whole _ 4 r (omega arith) (tag_1 e)
 
   pub size_2 : get_or w at 0 ≡ 2 → at < length w → 1 ≡ size (decode w at)
   size_2 e h = size_fits 1 (omega arith) _ ∙ sym (ap size (tag_2 e))
 
-  pub size_3 : (r : ℕ) → get_or w at 0 ≡ 3 → r ≡ size (hand_back_in w at (get_or w (at + 2) 0)) → r ≡ size (decode w at)
-  size_3 r e f = f ∙ sym (ap size (tag_3 e))
+  pub size_3 : (r : Option ℕ) → get_or w at 0 ≡ 3 → IsSizeOf r (hand_back_in w at (get_or w (at + 2) 0)) → IsSizeOf r (decode w at)
+  size_3 r e f = rw (tag_3 e) f
 
   -- Hand backs of n emissions.
   module _ (n : ℕ) where
@@ -84,11 +93,11 @@ module _ (w : List ℕ) (at : ℕ) where
     unfolding hand_back_in if◌then◌otherwise◌
     not_too_many h = rw (le-ltb max_items n h)
 
-    pub back_too_many : max_items < n → 0 ≡ size (hand_back_in w at n)
-    back_too_many h = sym (ap size (too_many h))
+    pub back_too_many : max_items < n → size (hand_back_in w at n) ≡ 0
+    back_too_many h = ap size (too_many h)
 
-    pub back_broken : length w < at + (3 + 8 * n) → 0 ≡ size (hand_back_in w at n)
-    back_broken h = ⊎_elim back_too_many (λ (b : n ≤ max_items). size_broken (3 + 8 * n) h _ ∙ sym (ap size (not_too_many b))) (lt_or_ge max_items n)
+    pub back_broken : length w < at + (3 + 8 * n) → size (hand_back_in w at n) ≡ 0
+    back_broken h = ⊎_elim back_too_many (λ (b : n ≤ max_items). ap size (not_too_many b) ∙ sym (size_broken (3 + 8 * n) h _)) (lt_or_ge max_items n)
 
     pub back_fits : n ≤ max_items → at + (3 + 8 * n) ≤ length w → 3 + 8 * n ≡ size (hand_back_in w at n)
     back_fits b h = size_fits (3 + 8 * n) h _ ∙ sym (ap size (not_too_many b))

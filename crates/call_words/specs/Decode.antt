@@ -1,5 +1,5 @@
 -- What words say as calls: docs/CALLS.md, tags 0 to 3. Reading past the end gives zeros, so a call that breaks off is one of more words than there are.
-use Rattle.std.specs.Prelude.{◌≡◌, List, [], ◌∷◌, ℕ, zero, suc, ◌+◌, ◌*◌, ltb, eqb, length, get_or, drop}
+use Rattle.std.specs.Prelude.{◌≡◌, List, [], ◌∷◌, ℕ, zero, suc, ◌+◌, ◌*◌, ◌<◌, ltb, eqb, length, get_or, drop, Option, MatchOption}
 use Rattle.rules.specs.Base.{if◌then◌otherwise◌}
 use Rattle.rules.specs.State.{Message}
 use Rattle.rules.specs.Calls.{Call, AddInitial, Begin, Step, HandBack}
@@ -51,6 +51,10 @@ decode w at =
 abbrev pub size : Decoded → ℕ
 size Nothing = 0
 size (Decodes k n) = n
+
+-- r is how many words it takes, where it is a call.
+abbrev pub IsSizeOf : Option ℕ → Decoded → Type 0
+IsSizeOf r d = MatchOption r (size d ≡ 0) (λ n. (0 < n) × (n ≡ size d))
 
 -- Any call of n words takes r of them at that place: n, or 0 if so many are not there.
 abbrev pub Sizes : List ℕ → ℕ → ℕ → ℕ → Type 0

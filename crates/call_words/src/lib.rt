@@ -3,15 +3,16 @@
 
 #![tactic(auto)]
 
-ghost use Rattle.std.specs.Prelude.{◌≡◌, ◌+◌, ◌*◌, ◌/◌, ◌≤◌, length, get_or, drop};
+ghost use Rattle.std.specs.Prelude.{◌≡◌, ◌+◌, ◌*◌, ◌/◌, ◌≤◌, ◌<◌, length, get_or, drop, MatchOption};
 ghost use Rattle.reply_words.specs.Emissions.{emissions_of};
 ghost use Rattle.state.specs.View.{message_of};
-ghost use Rattle.call_words.specs.Decode.{message_at, hand_back_in, decode, size, Sizes};
+ghost use Rattle.call_words.specs.Decode.{message_at, hand_back_in, decode, IsSizeOf, Sizes};
 
 use state::Message;
 use types::LpId;
 
-// The tags.
+// The tags. Kept as numbers: they are words of a file, which an enum would only be made of by a match
+// like that of `call_size`, to be matched once more.
 pub const ADD_INITIAL: u64 = 0;
 
 pub const BEGIN: u64 = 1;
@@ -23,58 +24,48 @@ pub const HAND_BACK: u64 = 3;
 // A hand back of more emissions is nothing that can be decoded.
 pub const MAX_ITEMS: u64 = 4096;
 
-// How many words a call takes that should have so many, or 0 if it breaks off.
-fn complete_size(words: &[u64], at: usize, count: usize) -> usize
+// How many words a call takes that should have so many, where it does not break off.
+fn complete_size(words: &[u64], at: usize, count: usize) -> Option<usize>
     requires { at ≤ length words.now }
-    ensures { Sizes words.now at count result }
+    ensures { MatchOption result (Sizes words.now at count 0) (λ n. (n ≡ count) × Sizes words.now at count n) }
 {
     if words.len() - at < count {
-        return 0;
+        return None;
     }
-    count
+    Some(count)
 }
 
 // The same of a hand back.
-fn hand_back_size(words: &[u64], at: usize) -> usize
+fn hand_back_size(words: &[u64], at: usize) -> Option<usize>
     requires { at ≤ length words.now }
-    ensures { result ≡ size (hand_back_in words.now at (get_or words.now (at + 2) 0)) }
+    ensures { IsSizeOf result (hand_back_in words.now at (get_or words.now (at + 2) 0)) }
 {
     let left = words.len() - at;
-    if left < 3 {
-        return 0;
-    }
-    let room = (left - 3) / 8;
+    let room = left.checked_sub(3)? / 8;
     let emitted = words[at + 2];
     if MAX_ITEMS < emitted {
-        return 0;
+        return None;
     }
     if (room as u64) < emitted {
-        return 0;
+        return None;
     }
-    3 + 8 * (emitted as usize)
+    Some(3 + 8 * emitted as usize)
 }
 
-// How many words the call at that place takes, or 0 if none can be decoded.
-pub fn call_size(words: &[u64], at: usize) -> usize
-    ensures { result ≡ size (decode words.now at) }
+// How many words the call at that place takes, where one can be decoded.
+pub fn call_size(words: &[u64], at: usize) -> Option<usize>
+    ensures { IsSizeOf result (decode words.now at) }
 {
     if words.len() <= at {
-        return 0;
+        return None;
     }
-    let tag = words[at];
-    if tag == ADD_INITIAL {
-        return complete_size(words, at, 8);
+    match words[at] {
+        ADD_INITIAL => complete_size(words, at, 8),
+        BEGIN => complete_size(words, at, 4),
+        STEP => Some(1),
+        HAND_BACK => hand_back_size(words, at),
+        _ => None,
     }
-    if tag == BEGIN {
-        return complete_size(words, at, 4);
-    }
-    if tag == STEP {
-        return 1;
-    }
-    if tag == HAND_BACK {
-        return hand_back_size(words, at);
-    }
-    0
 }
 
 // The message in the seven words from that place on.

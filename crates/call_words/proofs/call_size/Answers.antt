@@ -1,20 +1,21 @@
+use native.Mathlib.Omega.{arith}
 use Rattle.call_words.proofs.Decoding.{size_past, size_0, size_1, size_2, size_3, size_other}
 use Rattle.call_words.proofs.call_size.Goals as goal
 
 pub returns-then-words-at : goal.returns-then-words-at
 returns-then-words-at c = search size_past depth 1
 
-pub returns-then-tag-eq-ADD_INITIAL : goal.returns-then-tag-eq-ADD_INITIAL
-returns-then-tag-eq-ADD_INITIAL c = search size_0 depth 1
+pub returns-in-0 : goal.returns-in-0
+returns-in-0 c = size_0 _ _ _ c.in-0.is c.complete_size.ensures
 
-pub returns-then-tag-eq-BEGIN : goal.returns-then-tag-eq-BEGIN
-returns-then-tag-eq-BEGIN c = search size_1 depth 1
+pub returns-in-1 : goal.returns-in-1
+returns-in-1 c = size_1 _ _ _ c.in-1.is c.complete_size-in-1.ensures
 
-pub returns-then-tag-eq-STEP : goal.returns-then-tag-eq-STEP
-returns-then-tag-eq-STEP c = search size_2 depth 1
+pub returns-in-2 : goal.returns-in-2
+returns-in-2 c = (omega arith, size_2 _ _ c.in-2.is c.if-words-at.false)
 
-pub returns-then-tag-eq-HAND_BACK : goal.returns-then-tag-eq-HAND_BACK
-returns-then-tag-eq-HAND_BACK c = search size_3 depth 1
+pub returns-in-3 : goal.returns-in-3
+returns-in-3 c = size_3 _ _ _ c.in-3.is c.hand_back_size.ensures
 
-pub returns : goal.returns
-returns c = search size_other depth 1
+pub returns-in_default : goal.returns-in_default
+returns-in_default c = search size_other depth 1
