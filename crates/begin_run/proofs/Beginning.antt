@@ -1,7 +1,8 @@
 -- What each return of begin gives.
-use mathlib.Core.Path.{◌≡◌, refl, sym, ap, subst, ◌∙◌}
+use Rattle.std.specs.Prelude.{Ok, Err}
+use mathlib.Core.Path.{◌≡◌, refl, sym, ap, ◌∙◌}
 use mathlib.Core.Bool.{Bool, true, false, not}
-use mathlib.Core.List.{List, []}
+use mathlib.Core.List.{List}
 use Prim.Native.Nat.{ℕ}
 use native.Mathlib.Omega.{arith}
 use lib.Dec.{leb, ltb}
@@ -14,16 +15,13 @@ use Rattle.rules.specs.Answers as A
 use Rattle.rules.specs.Rows.{unless, out, refuse}
 use Rattle.rules.specs.Foreign.{foreign}
 use Rattle.rules.specs.Begin.{previous, begin}
-use Rattle.rules.specs.History as H
 use Rattle.state.specs.declared.Header.{Header}
 use Rattle.records.specs.Records.{events_of}
-use Rattle.state.specs.declared.Answer.{Answer}
-use Rattle.state.specs.declared.Answer.TheVariants as P
+use Rattle.state.specs.declared.Refusal.{Refusal}
+use Rattle.state.specs.declared.Refusal.TheVariants as P
 use Rattle.state.specs.View.{view, stored_of, answer_of}
-use Rattle.state.specs.Headers.{running_header}
-use Rattle.state.proofs.Deciding.{passes, refuses}
 use Rattle.state.proofs.Moves.{accepted_moves}
-use Rattle.begin_run.specs.Begins.{Begins, BeginRefusal}
+use Rattle.begin_run.specs.Begins.{BeginRefusal}
 
 pub last_stored : (b : _) (h k : ℕ) → b ≡ true → h ≡ previous (stored_of b h k)
 unfolding previous
@@ -64,43 +62,31 @@ at_top m t h false e l = sym (le-leb t h (omega (arith, ltb-false h m (sym l))))
 
 -- The same of the header, from the program's tests.
 module _ (h : Header) (t : SimTime) where
-  left : (a : Answer) → H.refused (answer_of [] a) ≡ true → ((E Q Z B : List ℕ) (c : Counters) (b : ℕ) → foreign (view h E Q Z B) ≡ false → out (answer_of (events_of h.batch B) a) (view h E Q Z B) c ≡ begin (view h E Q Z B) c (ticks_of t) b) → BeginRefusal h t a
-  left a r g = refuses a r (λ b. record { gives = λ E Q Z B c f. g E Q Z B c b f; kept = λ es x. refl })
+  left : (e : Refusal) → ((E Q Z B : List ℕ) (c : Counters) (b : ℕ) → foreign (view h E Q Z B) ≡ false → out (answer_of (events_of h.batch B) (Err e)) (view h E Q Z B) c ≡ begin (view h E Q Z B) c (ticks_of t) b) → BeginRefusal h t (Err e)
+  left e g = λ b. record { gives = λ E Q Z B c f. g E Q Z B c b f; kept = λ es x. refl }
 
-  pub poisoned : h.poisoned ≡ true → BeginRefusal h t P.Poisoned
-  unfolding H.refused
-  poisoned p = left _ refl (λ E Q Z B c b f. sym (row_12 (view h E Q Z B) c (ticks_of t) b f p))
+  pub poisoned : h.poisoned ≡ true → BeginRefusal h t (Err P.Poisoned)
+  poisoned p = left _ (λ E Q Z B c b f. sym (row_12 (view h E Q Z B) c (ticks_of t) b f p))
 
   module _ (p : h.poisoned ≡ false) where
-    pub run_open : h.running ≡ true → BeginRefusal h t P.RunOpen
-    unfolding H.refused
-    run_open r = left _ refl (λ E Q Z B c b f. sym (row_20 (view h E Q Z B) c (ticks_of t) b f p r))
+    pub run_open : h.running ≡ true → BeginRefusal h t (Err P.RunOpen)
+    run_open r = left _ (λ E Q Z B c b f. sym (row_20 (view h E Q Z B) c (ticks_of t) b f p r))
 
     module _ (r : h.running ≡ false) (m : SimTime) (e : ticks_of m ≡ previous (stored_of h.stored (ticks_of h.horizon) h.budget)) where
       before : (x u : Bool) → x ≡ ltb (ticks_of t) (ticks_of m) → x ≡ u → ltb (ticks_of t) (previous (stored_of h.stored (ticks_of h.horizon) h.budget)) ≡ u
       before x u y l = ap (ltb (ticks_of t)) (sym e) ∙ sym y ∙ l
 
-      pub regression : (x : Bool) → x ≡ ltb (ticks_of t) (ticks_of m) → x ≡ true → BeginRefusal h t (P.HorizonRegression m t)
-      unfolding H.refused
-      regression x y l = left _ refl (λ E Q Z B c b f.
+      pub regression : (x : Bool) → x ≡ ltb (ticks_of t) (ticks_of m) → x ≡ true → BeginRefusal h t (Err (P.HorizonRegression m t))
+      regression x y l = left _ (λ E Q Z B c b f.
           ap (λ (x : ℕ). refuse (view h E Q Z B) c (A.HorizonRegression x (ticks_of t))) e
           ∙ sym (row-21 (view h E Q Z B) c (ticks_of t) b f p r (before x true y l)))
 
       module _ (x : Bool) (y : x ≡ ltb (ticks_of t) (ticks_of m)) (l : x ≡ false) (u : Bool) (v : u ≡ leb max_tick (ticks_of t)) where
-        pub overflow : u ≡ true → BeginRefusal h t (P.HorizonOverflow t)
-        unfolding H.refused
-        overflow o = left _ refl (λ E Q Z B c b f. sym (row-22 (view h E Q Z B) c (ticks_of t) b f p r (before x false y l) (sym v ∙ o)))
+        pub overflow : u ≡ true → BeginRefusal h t (Err (P.HorizonOverflow t))
+        overflow o = left _ (λ E Q Z B c b f. sym (row-22 (view h E Q Z B) c (ticks_of t) b f p r (before x false y l) (sym v ∙ o)))
 
-        pub begun : u ≡ false → BeginRefusal h t P.Accepted
-        begun o = passes (λ b. record {
+        pub begun : u ≡ false → BeginRefusal h t (Ok tt)
+        begun o = λ b. record {
           gives = λ E Q Z B c f. sym (accepted (view h E Q Z B) c (ticks_of t) b f p r (before x false y l) (sym v ∙ o));
           kept = λ es x. accepted_moves x;
-        })
-
--- Then the run, or nothing.
-module _ (h : Header) (t : SimTime) (b : ℕ) (a : Answer) (d : BeginRefusal h t a) where
-  pub running : a ≡ P.Accepted → (k : Header) → k ≡ running_header h t b → Begins h t b (record { answer = a; head = k })
-  running e k g = subst (λ (k : Header). Begins h t b (record { answer = a; head = k })) (sym g) (d.passed e b)
-
-  pub as_given_holds : (a ≡ P.Accepted → ⊥) → Begins h t b (record { answer = a; head = h })
-  as_given_holds w = d.refused w b
+        }

@@ -1,5 +1,5 @@
 -- What the core of begin promises: answer and state are what the rule gives, of every state that 11 lets pass.
-use Rattle.std.specs.Prelude.{◌≡◌, true, false, List, ℕ}
+use Rattle.std.specs.Prelude.{◌≡◌, true, false, List, ℕ, Result, Ok, Err}
 use Rattle.types.specs.declared.SimTime.{SimTime}
 use Rattle.types.specs.Value.{ticks_of}
 use Rattle.rules.specs.State.{Event, Counters}
@@ -8,7 +8,8 @@ use Rattle.rules.specs.Foreign.{foreign}
 use Rattle.rules.specs.Begin.{begin}
 use Rattle.rules.specs.History.{refused}
 use Rattle.state.specs.declared.Header.{Header}
-use Rattle.state.specs.declared.Answer.{Answer}
+use Rattle.state.specs.declared.Answer.TheVariants.{Accepted}
+use Rattle.state.specs.declared.Refusal.{Refusal}
 use Rattle.state.specs.View.{view, answer_of}
 use Rattle.state.specs.Headers.{running_header}
 use Rattle.state.specs.RefusalOr.{RefusalOr}
@@ -22,7 +23,7 @@ pub record Begins (h : Header) (horizon : SimTime) (budget : ℕ) (r : HeaderRes
   pub kept : (es : List Event) → refused (answer_of es r.answer) ≡ true → r.head ≡ h
 
 -- The rows' answer, whatever the budget is: a run begins, or all is left as given.
-abbrev pub BeginRefusal : Header → SimTime → Answer → Type 0
-BeginRefusal h t a = RefusalOr a
-    ((b : ℕ) → Begins h t b (record { answer = a; head = running_header h t b }))
-    ((b : ℕ) → Begins h t b (record { answer = a; head = h }))
+abbrev pub BeginRefusal : Header → SimTime → Result (Unit {0}) Refusal → Type 0
+BeginRefusal h t r = RefusalOr r
+    ((b : ℕ) → Begins h t b (record { answer = Ok Accepted; head = running_header h t b }))
+    (λ e. (b : ℕ) → Begins h t b (record { answer = Err e; head = h }))

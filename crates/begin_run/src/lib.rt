@@ -10,7 +10,7 @@ ghost use Rattle.rules.specs.State.{max_tick};
 ghost use Rattle.rules.specs.Begin.{previous};
 ghost use Rattle.begin_run.specs.Begins.{Begins, BeginRefusal};
 
-use state::{Answer, Header, HeaderResult};
+use state::{Answer, Header, HeaderResult, Refusal};
 use types::SimTime;
 
 // The last accepted horizon; 0 stands for none, since nothing is below it.
@@ -31,23 +31,23 @@ fn is_largest(tick: SimTime) -> bool
 }
 
 // Rows 12, 20, 21 and 22.
-fn refusal(head: Header, horizon: SimTime) -> Answer
+fn refusal(head: Header, horizon: SimTime) -> Result<(), Refusal>
     ensures { BeginRefusal head horizon result }
 {
     if head.poisoned {
-        return Answer::Poisoned;
+        return Err(Refusal::Poisoned);
     }
     if head.running {
-        return Answer::RunOpen;
+        return Err(Refusal::RunOpen);
     }
     let last = last_horizon(head);
     if horizon.lt(last) {
-        return Answer::HorizonRegression(last, horizon);
+        return Err(Refusal::HorizonRegression(last, horizon));
     }
     if is_largest(horizon) {
-        return Answer::HorizonOverflow(horizon);
+        return Err(Refusal::HorizonOverflow(horizon));
     }
-    Answer::Accepted
+    Ok(())
 }
 
 // "Begin stores horizon and budget, closes initial events, sets this run's used count to 0 and opens
@@ -55,27 +55,29 @@ fn refusal(head: Header, horizon: SimTime) -> Answer
 fn open_run(head: Header, horizon: SimTime, budget: u64) -> Header
     ensures { result ≡ running_header head horizon budget }
 {
-    let mut h = head;
-    h.stored = true;
-    h.horizon = horizon;
-    h.budget = budget;
-    h.used = 0;
-    h.initial = false;
-    h.running = true;
-    h
+    Header {
+        stored: true,
+        horizon,
+        budget,
+        used: 0,
+        initial: false,
+        running: true,
+        ..head
+    }
 }
 
 // The rows; then the run.
 pub fn begin(head: Header, horizon: SimTime, budget: u64) -> HeaderResult
     ensures { Begins head horizon budget result }
 {
-    let answer = refusal(head, horizon);
-    let mut h = head;
-    if let Answer::Accepted = answer {
-        h = open_run(head, horizon, budget);
-    }
-    HeaderResult {
-        answer: answer,
-        head: h,
+    match refusal(head, horizon) {
+        Ok(()) => HeaderResult {
+            answer: Ok(Answer::Accepted),
+            head: open_run(head, horizon, budget),
+        },
+        Err(refusal) => HeaderResult {
+            answer: Err(refusal),
+            head,
+        },
     }
 }

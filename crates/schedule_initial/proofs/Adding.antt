@@ -1,4 +1,6 @@
 -- What each return of add initial gives.
+use Rattle.std.specs.Prelude.{Result, Ok, Err}
+use Rattle.std.proofs.lemmas.Result.{MatchResult-weaker}
 use mathlib.Core.Path.{◌≡◌, refl, sym, ap, subst, ◌∙◌}
 use mathlib.Core.Bool.{Bool, true, false}
 use mathlib.Core.List.{List}
@@ -21,17 +23,16 @@ use Rattle.rules.specs.Rows.{unless, out, refuse}
 use Rattle.rules.specs.Pending.{insert, route}
 use Rattle.rules.specs.Foreign.{foreign}
 use Rattle.rules.specs.Initial.{add_initial}
-use Rattle.rules.specs.History as H
 use Rattle.rules.proofs.Tests.{by_bool}
 use Rattle.state.specs.declared.Header.{Header}
 use Rattle.state.specs.declared.Message.{Message}
-use Rattle.state.specs.declared.Answer.{Answer}
-use Rattle.state.specs.declared.Answer.TheVariants as P
+use Rattle.state.specs.declared.Answer.TheVariants as D
+use Rattle.state.specs.declared.Refusal.{Refusal}
+use Rattle.state.specs.declared.Refusal.TheVariants as P
 use Rattle.state.specs.View.{view, message_of}
 use Rattle.state.specs.Headers.{enqueued_header}
-use Rattle.state.proofs.Deciding.{passes, refuses}
 use Rattle.state.proofs.Moves.{accepted_moves}
-use Rattle.schedule_initial.specs.AddsInitial.{record_of, CanEnqueue, InitialAllowed, RowsPassed, QueueRefusal, InitialRefusal, Enqueues, AddsInitial}
+use Rattle.schedule_initial.specs.AddsInitial.{record_of, CanEnqueue, InitialAllowed, HasRoom, Refuses, RowsPassed, QueueRefusal, InitialRefusal, Enqueues, AddsInitial}
 
 -- The rows, each with those before it passed.
 module _ (s : State) (c : Counters) (m : R.Message) where
@@ -104,72 +105,63 @@ module _ (h : Header) (m : Message) where
   short : m.len ≤ 16 → ltb max_payload (length (message_of m).payload) ≡ false
   short l = le-ltb 16 (length (message_of m).payload) (omega (arith, payload))
 
-  pub queue_long : 16 < m.len → QueueRefusal h m (P.PayloadTooLong m.len)
-  unfolding H.refused
-  queue_long l = refuses _ refl (λ E Q Z B c i.
+  pub queue_long : 16 < m.len → QueueRefusal h m (Err (P.PayloadTooLong m.len))
+  queue_long l = λ E Q Z B c i.
       ap (λ (k : ℕ). refuse (view h E Q Z B) c (A.PayloadTooLong k)) (sym payload)
-      ∙ sym (row_17 (view h E Q Z B) c (message_of m) i (lt-ltb 16 (length (message_of m).payload) (omega (arith, payload)))))
+      ∙ sym (row_17 (view h E Q Z B) c (message_of m) i (lt-ltb 16 (length (message_of m).payload) (omega (arith, payload))))
 
   module _ (l : m.len ≤ 16) (t : Bool) (et : t ≡ ltb max_pending (h.pending + 1)) where
     room : (u : Bool) → t ≡ u → (Q : List ℕ) → leb max_pending (length (events_of h.pending Q)) ≡ u
     room u e Q = ap (leb max_pending) (length_tab (event_at Q) 0 h.pending) ∙ one_over max_pending h.pending ∙ sym et ∙ e
 
-    pub queue_full : t ≡ true → QueueRefusal h m P.QueueFull
-    unfolding H.refused
-    queue_full k = refuses _ refl (λ E Q Z B c i. sym (row_18 (view h E Q Z B) c (message_of m) i (short l) (room true k Q)))
+    pub queue_full : t ≡ true → QueueRefusal h m (Err P.QueueFull)
+    queue_full k = λ E Q Z B c i. sym (row_18 (view h E Q Z B) c (message_of m) i (short l) (room true k Q))
 
     module _ (k : t ≡ false) (u : Bool) (eu : u ≡ ltb max_count (h.next + 1)) where
-      pub queue_late : u ≡ true → QueueRefusal h m P.EventSequenceOverflow
-      unfolding H.refused
-      queue_late x = refuses _ refl (λ E Q Z B c i. sym (row_19 (view h E Q Z B) c (message_of m) i (short l) (room false k Q) (sym eu ∙ x)))
+      pub queue_late : u ≡ true → QueueRefusal h m (Err P.EventSequenceOverflow)
+      queue_late x = λ E Q Z B c i. sym (row_19 (view h E Q Z B) c (message_of m) i (short l) (room false k Q) (sym eu ∙ x))
 
-      pub queue_open : u ≡ false → QueueRefusal h m P.Accepted
-      queue_open x = passes (record { short = l; place = omega (arith, ltb-false max_pending (h.pending + 1) (sym et ∙ k)); number = omega (arith, ltb-false max_count (h.next + 1) (sym eu ∙ x)) })
+      pub queue_open : u ≡ false → QueueRefusal h m (Ok tt)
+      queue_open x = record { short = l; place = omega (arith, ltb-false max_pending (h.pending + 1) (sym et ∙ k)); number = omega (arith, ltb-false max_count (h.next + 1) (sym eu ∙ x)) }
 
 -- Rows 12 to 16, and then those of the queue.
 module _ (h : Header) (E : List ℕ) (m : Message) where
-  pub add_poisoned : h.poisoned ≡ true → InitialRefusal h E m P.Poisoned
-  unfolding H.refused
-  add_poisoned p = refuses _ refl (λ Q Z B c f. sym (row_12 (view h E Q Z B) c (message_of m) f p))
+  pub add_poisoned : h.poisoned ≡ true → InitialRefusal h E m (Err P.Poisoned)
+  add_poisoned p = λ Q Z B c f. sym (row_12 (view h E Q Z B) c (message_of m) f p)
 
   module _ (p : h.poisoned ≡ false) where
-    pub add_closed : h.initial ≡ false → InitialRefusal h E m P.InitialEventsAlreadyClosed
-    unfolding H.refused
-    add_closed o = refuses _ refl (λ Q Z B c f. sym (row-13 (view h E Q Z B) c (message_of m) f p o))
+    pub add_closed : h.initial ≡ false → InitialRefusal h E m (Err P.InitialEventsAlreadyClosed)
+    add_closed o = λ Q Z B c f. sym (row-13 (view h E Q Z B) c (message_of m) f p o)
 
     module _ (o : h.initial ≡ true) (a : ℕ) (ea : a ≡ lp_id_of m.source) where
-      pub add_source : h.n ≤ a → InitialRefusal h E m (P.UnknownInitialSource m.source)
-      unfolding H.refused
-      add_source l = refuses _ refl (λ Q Z B c f. sym (row-14 (view h E Q Z B) c (message_of m) f p o (le-leb h.n _ (omega arith))))
+      pub add_source : h.n ≤ a → InitialRefusal h E m (Err (P.UnknownInitialSource m.source))
+      add_source l = λ Q Z B c f. sym (row-14 (view h E Q Z B) c (message_of m) f p o (le-leb h.n _ (omega arith)))
 
       module _ (l : a < h.n) (b : ℕ) (eb : b ≡ lp_id_of m.destination) where
         known : leb h.n (lp_id_of m.source) ≡ false
         known = lt-leb h.n _ (omega arith)
 
-        pub add_destination : h.n ≤ b → InitialRefusal h E m (P.UnknownInitialDestination m.destination)
-        unfolding H.refused
-        add_destination k = refuses _ refl (λ Q Z B c f. sym (row-15 (view h E Q Z B) c (message_of m) f p o known (le-leb h.n _ (omega arith))))
+        pub add_destination : h.n ≤ b → InitialRefusal h E m (Err (P.UnknownInitialDestination m.destination))
+        add_destination k = λ Q Z B c f. sym (row-15 (view h E Q Z B) c (message_of m) f p o known (le-leb h.n _ (omega arith)))
 
         module _ (k : b < h.n) (t : Bool) (et : t ≡ route (edges_of h.edges E) (lp_id_of m.source) (lp_id_of m.destination)) where
           reached : leb h.n (lp_id_of m.destination) ≡ false
           reached = lt-leb h.n _ (omega arith)
 
-          pub add_unrouted : t ≡ false → InitialRefusal h E m (P.InitialRouteMissing m.source m.destination)
-          unfolding H.refused
-          add_unrouted u = refuses _ refl (λ Q Z B c f. sym (row-16 (view h E Q Z B) c (message_of m) f p o known reached (sym et ∙ u)))
+          pub add_unrouted : t ≡ false → InitialRefusal h E m (Err (P.InitialRouteMissing m.source m.destination))
+          add_unrouted u = λ Q Z B c f. sym (row-16 (view h E Q Z B) c (message_of m) f p o known reached (sym et ∙ u))
 
-          pub add_queued : t ≡ true → (r : Answer) → QueueRefusal h m r → InitialRefusal h E m r
+          pub add_queued : t ≡ true → (r : Result (Unit {0}) Refusal) → QueueRefusal h m r → InitialRefusal h E m r
           add_queued u r d =
               let lets : RowsPassed h E m = λ Q Z B f. record { passes = f; healthy = p; opened = o; source = known; destination = reached; routed = sym et ∙ u } in
-              record { passed = λ e. (d.passed e, lets); refused = λ n Q Z B c f. d.refused n E Q Z B c (lets Q Z B f) }
+              MatchResult-weaker r d (λ _ room. (room, lets)) (λ e refused Q Z B c f. refused E Q Z B c (lets Q Z B f))
 
 -- Then the queue, or nothing.
-module _ (h : Header) (E Q : List ℕ) (m : Message) (a : Answer) (d : InitialRefusal h E m a) where
-  pub added : a ≡ P.Accepted → (k : Header) (Q' : List ℕ) → Enqueues h Q m k Q' → AddsInitial h E Q m (record { answer = a; head = k }) Q'
+module _ (h : Header) (E Q : List ℕ) (m : Message) where
+  pub added : HasRoom h m × RowsPassed h E m → (k : Header) (Q' : List ℕ) → Enqueues h Q m k Q' → AddsInitial h E Q m (record { answer = Ok D.Accepted; head = k }) Q'
   unfolding record_of
-  added e k Q' g = rw (e, g.head) (record {
+  added p k Q' g = rw g.head (record {
     gives = λ Z B c f.
-        let p = d.passed e in
         let t : leb max_pending (length (events_of h.pending Q)) ≡ false = lt-leb 512 (length (events_of h.pending Q)) (omega (arith, length_tab (event_at Q) 0 h.pending, p.0.place)) in
         let n : h.next + 1 ≡ suc h.next = omega arith in
         (λ j. out A.Accepted (with_pending (view h E Q Z B) (g.inserted.events j) (n j)) c)
@@ -177,5 +169,5 @@ module _ (h : Header) (E Q : List ℕ) (m : Message) (a : Answer) (d : InitialRe
     kept = λ es y. accepted_moves y;
   })
 
-  pub as_given_holds : (a ≡ P.Accepted → ⊥) → AddsInitial h E Q m (record { answer = a; head = h }) Q
-  as_given_holds w = record { gives = λ Z B c f. d.refused w Q Z B c f; kept = λ es y. (refl, refl) }
+  pub as_given_holds : (e : Refusal) → Refuses (λ s. foreign s ≡ false) h E m e → AddsInitial h E Q m (record { answer = Err e; head = h }) Q
+  as_given_holds e d = record { gives = λ Z B c f. d Q Z B c f; kept = λ es y. (refl, refl) }

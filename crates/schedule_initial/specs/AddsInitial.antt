@@ -1,5 +1,5 @@
 -- What the core of add initial promises: answer and state are what the rule gives, of every state that 11 lets pass.
-use Rattle.std.specs.Prelude.{◌≡◌, true, false, List, ℕ, ◌≤◌, ◌<◌, leb, length}
+use Rattle.std.specs.Prelude.{◌≡◌, true, false, List, ℕ, ◌≤◌, ◌<◌, leb, length, Result, Err}
 use Rattle.types.specs.Value.{lp_id_of}
 use Rattle.rules.specs.Base.{any, rising}
 use Rattle.rules.specs.State as R
@@ -11,7 +11,7 @@ use Rattle.rules.specs.Initial.{add_initial}
 use Rattle.rules.specs.History.{refused}
 use Rattle.state.specs.declared.Header.{Header}
 use Rattle.state.specs.declared.Message.{Message}
-use Rattle.state.specs.declared.Answer.{Answer}
+use Rattle.state.specs.declared.Refusal.{Refusal}
 use Rattle.state.specs.View.{view, message_of, answer_of}
 use Rattle.state.specs.Headers.{enqueued_header}
 use Rattle.state.specs.RefusalOr.{RefusalOr}
@@ -51,19 +51,19 @@ pub record HasRoom (h : Header) (m : Message) : Type 0 where
   pub place : h.pending < 512
   pub number : h.next < 18446744073709551615
 
--- The rule refuses as a says, whatever the other arrays and the counters are.
-abbrev pub Refuses : (State → Type 0) → Header → List ℕ → Message → Answer → Type 0
-Refuses Lets h E m a = (P Z B : List ℕ) (c : Counters) → Lets (view h E P Z B) → out (answer_of (events_of h.batch B) a) (view h E P Z B) c ≡ add_initial (view h E P Z B) c (message_of m)
+-- The rule refuses as e says, whatever the other arrays and the counters are.
+abbrev pub Refuses : (State → Type 0) → Header → List ℕ → Message → Refusal → Type 0
+Refuses Lets h E m e = (P Z B : List ℕ) (c : Counters) → Lets (view h E P Z B) → out (answer_of (events_of h.batch B) (Err e)) (view h E P Z B) c ≡ add_initial (view h E P Z B) c (message_of m)
 
 -- What rows 17 to 19 answer, where those before them let the message pass; and rows 12 to 19, where 11 lets the state pass.
-abbrev pub QueueRefusal : Header → Message → Answer → Type 0
-QueueRefusal h m a = RefusalOr a (HasRoom h m) ((E : List ℕ) → Refuses (λ s. InitialAllowed s (message_of m)) h E m a)
+abbrev pub QueueRefusal : Header → Message → Result (Unit {0}) Refusal → Type 0
+QueueRefusal h m r = RefusalOr r (HasRoom h m) (λ e. (E : List ℕ) → Refuses (λ s. InitialAllowed s (message_of m)) h E m e)
 
 abbrev pub RowsPassed : Header → List ℕ → Message → Type 0
 RowsPassed h E m = (P Z B : List ℕ) → foreign (view h E P Z B) ≡ false → InitialAllowed (view h E P Z B) (message_of m)
 
-abbrev pub InitialRefusal : Header → List ℕ → Message → Answer → Type 0
-InitialRefusal h E m a = RefusalOr a (HasRoom h m × RowsPassed h E m) (Refuses (λ s. foreign s ≡ false) h E m a)
+abbrev pub InitialRefusal : Header → List ℕ → Message → Result (Unit {0}) Refusal → Type 0
+InitialRefusal h E m r = RefusalOr r (HasRoom h m × RowsPassed h E m) (Refuses (λ s. foreign s ≡ false) h E m)
 
 -- The message is pending at its place.
 pub record Enqueues (h : Header) (pending : List ℕ) (m : Message) (r : Header) (pending' : List ℕ) : Type 0 where
