@@ -56,12 +56,11 @@ past_end t p l h = let g : length t ≤ p = omega arith in get_or-eq_default t 0
 
 -- The events from i on are passed.
 pub record Placing (w : List ℕ) (n i : ℕ) (t : List ℕ) : Type 0 where
-  pub within : i ≤ n
   pub places : (p : ℕ) → get_or t p 0 ≡ place_from i (tab (event_at w) i (n - i)) p
 
-pub owner_next : (w : List ℕ) (n i : ℕ) (t : List ℕ) → 0 < i → Placing w n i t → Owners n w → get_or w (8 * (i - 1)) 0 < 64
+pub owner_next : (w : List ℕ) (n i : ℕ) → 0 < i → i ≤ n → Owners n w → get_or w (8 * (i - 1)) 0 < 64
 unfolding Owners
-owner_next w n i t h f o = rw (event_to w (i - 1)) at (o (i - 1) (omega (arith, f.within)))
+owner_next w n i h m o = rw (event_to w (i - 1)) at (o (i - 1) (omega arith))
 
 noughts : (k p : ℕ) → get_or (zeroes k) p 0 ≡ 0
 noughts zero p = refl
@@ -74,7 +73,6 @@ empty_length t e = ap length e
 pub placing_start : (w : List ℕ) (n : ℕ) (t : List ℕ) → t ≡ zeroes 64 → Placing w n n t
 unfolding place_from
 placing_start w n t e = record {
-  within = omega arith;
   places = λ p. ap (λ (x : List ℕ). get_or x p 0) e ∙ noughts 64 p ∙ rw (tab_none (event_at w) n n (omega arith));
 }
 
@@ -84,15 +82,14 @@ word_set t d p x h =
     (λ b. let s : d ≡ p = eqb-true d p b in rw (← s) (get_or-set_same t d x 0 h))
     (λ b. get_or-set_other t d p x 0 (λ s. eqb-false d p b (sym s)))
 
-pub placing_more : (w : List ℕ) (n i : ℕ) (t : List ℕ) → 0 < i → Placing w n i t → length t ≡ 64 → Owners n w → Placing w n (i - 1) (set t (get_or w (8 * (i - 1)) 0) (i - 1 + 1))
+pub placing_more : (w : List ℕ) (n i : ℕ) (t : List ℕ) → 0 < i → i ≤ n → Placing w n i t → length t ≡ 64 → Owners n w → Placing w n (i - 1) (set t (get_or w (8 * (i - 1)) 0) (i - 1 + 1))
 unfolding place_from
-placing_more w n i t h f l o =
-    let d : get_or w (8 * (i - 1)) 0 < length t = omega (arith, owner_next w n i t h f o) in
+placing_more w n i t h m f l o =
+    let d : get_or w (8 * (i - 1)) 0 < length t = omega (arith, owner_next w n i h m o) in
     let s : i - 1 + 1 ≡ i = omega arith in
     let u : suc (i - 1) ≡ i = omega arith in
     record {
-      within = omega (arith, f.within);
-      places = λ p. word_set t (get_or w (8 * (i - 1)) 0) p (i - 1 + 1) d ∙ rw (tab_step (event_at w) i n h f.within, event_to w (i - 1), s, u, f.places p);
+      places = λ p. word_set t (get_or w (8 * (i - 1)) 0) p (i - 1 + 1) d ∙ rw (tab_step (event_at w) i n h m, event_to w (i - 1), s, u, f.places p);
     }
 
 pub placing_end : (w : List ℕ) (n i : ℕ) (t : List ℕ) → i ≤ 0 → Placing w n i t → Places (events_of n w) t

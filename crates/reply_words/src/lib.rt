@@ -53,13 +53,13 @@ pub fn failed(mask: u64, p: u64) -> bool
 
 // The place of each process's event in the batch, counted from 1; for a process that has none the table
 // keeps its 0. From the end: the first is what stays.
+// Kept as words, with 0 for none: a host that has no room for tables of its own lends them (host_reply),
+// and a table of `Option<usize>` is twice as long to clear for each reply.
 pub fn find_places(batch: &[u64], count: usize, places: &mut [u64])
     requires { (8 * count ≤ length batch.now) × (places.old ≡ zeroes 64) × Owners count batch.now }
     ensures { Places (events_of count batch.now) places.new }
 {
-    let mut i = count;
-    while 0 < i {
-        i -= 1;
+    for i in (0..count).rev() {
         let p = batch[8 * i] as usize;
         places[p] = (i + 1) as u64;
     }
@@ -70,15 +70,13 @@ pub fn failed_not_in_batch(mask: u64, places: &[u64]) -> bool
     requires { length places.now ≡ 64 }
     ensures { FailedNotInBatch mask places.now result }
 {
-    let mut p: u64 = 0;
-    while p < MAX_PROCESSES {
+    for p in 0..MAX_PROCESSES {
         if mask >> p == 0 {
             return false;
         }
         if failed_without_event(mask, p, places) {
             return true;
         }
-        p += 1;
     }
     false
 }

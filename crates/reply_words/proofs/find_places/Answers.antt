@@ -8,7 +8,8 @@ loop-i-init c = (empty_length _ c.requires.1, placing_start _ _ _ c.requires.1)
 
 pub offset_bounds-places-p : goal.offset_bounds-places-p
 offset_bounds-places-p c =
-    record { fits = omega (arith, owner_next _ c.args.count _ _ c.loop-i-test.true c.loop-i.invariant.1 c.requires.2) }
+    let below = owner_next _ c.args.count _ c.loop-i-test.true (search rules) c.requires.2 in
+    record { fits = omega arith }
 
 pub bounds-places-p : goal.bounds-places-p
 bounds-places-p c = search (owner_next, rules)

@@ -5,6 +5,3 @@ use Rattle.reply_words.proofs.find_places.Given as goal
 
 abbrev pub invariant-loop-i : goal.invariant-loop-i
 invariant-loop-i l = (length l.places ≡ 64) × Placing l.batch l.count l.i l.places
-
-abbrev pub decreases-loop-i : goal.decreases-loop-i
-decreases-loop-i l = l.i
