@@ -11,9 +11,9 @@ use lib.ListN.{length, get_or, set}
 use lib.Seq.{get_or-set_same, get_or-set_other}
 use borrow.Author.Tests.{lt-ltb, eq-eqb, ne_eqb, eqb-true, ltb-true}
 use Rattle.types.specs.declared.SimDuration.{SimDuration}
-use Rattle.types.specs.Value.{halves, duration_of, lp_id_of}
+use Rattle.types.specs.Value.{duration_of, lp_id_of}
 use Rattle.types.proofs.Halves.{lt_or_ge}
-use Rattle.words.specs.Words.{tab, tick_at}
+use Rattle.words.specs.Words.{tab}
 use Rattle.words.proofs.Tab.{tab_step, tab_none, tab_whole}
 use Rattle.records.specs.Records.{edge_at, edges_of}
 use Rattle.rules.specs.Base.{if◌then◌otherwise◌}
@@ -106,17 +106,16 @@ module _ (E : List ℕ) (i : ℕ) (T t : List ℕ) (to_below : get_or E (6 * i +
 
 -- A pass over the edges from the last to the first: look tells of those from i on.
 pub record Looking (E : List ℕ) (n : ℕ) (T : List ℕ) (look : ℕ → ℕ → ℕ) (i : ℕ) : Type 0 where
-  pub within : i ≤ n
   pub looks : Looks (tab (edge_at E) i (n - i)) T look
 
 module _ (E : List ℕ) (n : ℕ) (T : List ℕ) (look : ℕ → ℕ → ℕ) where
   pub looking_start : Looks [] T look → Looking E n T look n
-  looking_start r = record { within = omega arith; looks = rw (tab_none (edge_at E) n n (omega arith)) r }
+  looking_start r = record { looks = rw (tab_none (edge_at E) n n (omega arith)) r }
 
   module _ (i : ℕ) (p : Looking E n T look i) where
-    pub looking_more : 0 < i → (look' : ℕ → ℕ → ℕ) → LooksMore (edge_at E (i - 1)) T look look' → Looking E n T look' (i - 1)
+    pub looking_more : 0 < i → i ≤ n → (look' : ℕ → ℕ → ℕ) → LooksMore (edge_at E (i - 1)) T look look' → Looking E n T look' (i - 1)
     unfolding LooksMore
-    looking_more h look' m = record { within = omega (arith, p.within); looks = rw (tab_step (edge_at E) i n h p.within) (m _ p.looks) }
+    looking_more h l look' m = record { looks = rw (tab_step (edge_at E) i n h l) (m _ p.looks) }
 
     pub looking_end : i ≤ 0 → Looks (edges_of n E) T look
     looking_end h = let z : i ≡ 0 = omega arith in rw (tab_whole (edge_at E) i n z) at p.looks
@@ -139,13 +138,13 @@ module _ (E : List ℕ) (n : ℕ) (T t₀ : List ℕ) (c : CanFind E n T t₀) w
     finding_rows : Rows T (length t)
     finding_rows = rw f.same c.rows
 
-    pub finding_asks : 0 < i → (6 * (i - 1) + 6 ≤ length E) × (i - 1 < 512) × (get_or E (6 * (i - 1)) 0 < 64) × (get_or E (6 * (i - 1) + 1) 0 < 64) × Rows T (length t)
-    finding_asks h =
-        let k = not_unknown E n i h f.looking.within c.known in
-        (omega (arith, c.edge_words, f.looking.within), omega (arith, c.few, f.looking.within), source_below E (i - 1) k, destination_below E (i - 1) k, finding_rows)
+    pub finding_asks : 0 < i → i ≤ n → (6 * (i - 1) + 6 ≤ length E) × (i - 1 < 512) × (get_or E (6 * (i - 1)) 0 < 64) × (get_or E (6 * (i - 1) + 1) 0 < 64) × Rows T (length t)
+    finding_asks h l =
+        let k = not_unknown E n i h l c.known in
+        (omega (arith, c.edge_words), omega (arith, c.few), source_below E (i - 1) k, destination_below E (i - 1) k, finding_rows)
 
-    pub finding_more : 0 < i → (u : List ℕ) → length u ≡ length t → Puts E (i - 1) T t u → Finding E n T t₀ (i - 1) u
-    finding_more h u e m = record { same = e ∙ f.same; looking = looking_more E n T (look_in_table E t T) i f.looking h (look_in_table E u T) m.looks; entries = m.entries n (omega (arith, f.looking.within)) f.entries }
+    pub finding_more : 0 < i → i ≤ n → (u : List ℕ) → length u ≡ length t → Puts E (i - 1) T t u → Finding E n T t₀ (i - 1) u
+    finding_more h l u e m = record { same = e ∙ f.same; looking = looking_more E n T (look_in_table E t T) i f.looking h l (look_in_table E u T) m.looks; entries = m.entries n (omega arith) f.entries }
 
     pub finding_end : i ≤ 0 → Found E n T t
     finding_end h = record { looks = looking_end E n T (look_in_table E t T) i f.looking h; entries = f.entries }
@@ -183,7 +182,3 @@ module _ (E t T : List ℕ) (c : CanLook E t T) (e : Emission) (a : ℕ) (sa : a
         pub told_edge : (r : SimDuration) → duration_of r ≡ (edge_at E (k - 1)).lookahead → Told r
         unfolding entry_lookahead
         told_edge = let s : k ≡ suc (k - 1) = omega arith in told (edge_at E (k - 1)).lookahead (in_row E t T a b p l ∙ ap (entry_lookahead E) (sym i ∙ s))
-
-pub read_lookahead : (E : List ℕ) (i : ℕ) (r : SimDuration) → duration_of r ≡ halves (get_or E (6 * i + 2) 0) (get_or E (6 * i + 3) 0) → duration_of r ≡ (edge_at E i).lookahead
-unfolding edge_at tick_at
-read_lookahead E i r e = let s : 6 * i + 2 + 1 ≡ 6 * i + 3 = omega arith in rw s e

@@ -79,7 +79,6 @@ module _ (E : List ℕ) (i : ℕ) (w : List ℕ) (long : 8192 ≤ length w) (fro
 -- The edges from i on are passed.
 pub record Telling (E : List ℕ) (n : ℕ) (w₀ : List ℕ) (i : ℕ) (w : List ℕ) : Type 0 where
   pub same : length w ≡ length w₀
-  pub within : i ≤ n
   pub looking : (T : List ℕ) → Looking E n T (lookahead_in w) i
 
 module _ (E : List ℕ) (n : ℕ) (w₀ : List ℕ) (c : CanFindLookaheads E n w₀) where
@@ -88,17 +87,17 @@ module _ (E : List ℕ) (n : ℕ) (w₀ : List ℕ) (c : CanFindLookaheads E n w
   no_lookaheads T a b p = by_test (λ (x : ℕ). x ≡ 0) (λ _. rw (c.empty (2 * (64 * a + b)), c.empty (2 * (64 * a + b) + 1))) (λ _. refl)
 
   pub telling_start : Telling E n w₀ n w₀
-  telling_start = record { same = refl; within = omega arith; looking = λ T. looking_start E n T (lookahead_in w₀) (no_lookaheads T) }
+  telling_start = record { same = refl; looking = λ T. looking_start E n T (lookahead_in w₀) (no_lookaheads T) }
 
   module _ (i : ℕ) (w : List ℕ) (f : Telling E n w₀ i w) where
-    pub telling_asks : 0 < i → (6 * (i - 1) + 6 ≤ length E) × (8192 ≤ length w) × (get_or E (6 * (i - 1)) 0 < 64) × (get_or E (6 * (i - 1) + 1) 0 < 64)
-    telling_asks h =
-        let k = not_unknown E n i h f.within c.known in
-        (omega (arith, c.edge_words, f.within), omega (arith, c.table_words, f.same), source_below E (i - 1) k, destination_below E (i - 1) k)
+    pub telling_asks : 0 < i → i ≤ n → (6 * (i - 1) + 6 ≤ length E) × (8192 ≤ length w) × (get_or E (6 * (i - 1)) 0 < 64) × (get_or E (6 * (i - 1) + 1) 0 < 64)
+    telling_asks h l =
+        let k = not_unknown E n i h l c.known in
+        (omega (arith, c.edge_words), omega (arith, c.table_words, f.same), source_below E (i - 1) k, destination_below E (i - 1) k)
 
-    pub telling_more : 0 < i → (u : List ℕ) → length u ≡ length w → PutsLookahead (edge_at E (i - 1)) w u → Telling E n w₀ (i - 1) u
+    pub telling_more : 0 < i → i ≤ n → (u : List ℕ) → length u ≡ length w → PutsLookahead (edge_at E (i - 1)) w u → Telling E n w₀ (i - 1) u
     unfolding PutsLookahead
-    telling_more h u e m = record { same = e ∙ f.same; within = omega (arith, f.within); looking = λ T. looking_more E n T (lookahead_in w) i (f.looking T) h (lookahead_in u) (m T) }
+    telling_more h l u e m = record { same = e ∙ f.same; looking = λ T. looking_more E n T (lookahead_in w) i (f.looking T) h l (lookahead_in u) (m T) }
 
     pub telling_end : i ≤ 0 → FoundLookaheads (edges_of n E) w
     unfolding FoundLookaheads
@@ -125,6 +124,5 @@ module _ (w : List ℕ) (n : length w ≡ 8192) (e : Emission) (a : ℕ) (sa : a
   pub told_beyond : 64 ≤ b → (r : SimDuration) → duration_of r ≡ 0 → Told r
   told_beyond l = told 0 (no_column w a b l)
 
-  pub told_pair : b < 64 → (r : SimDuration) → duration_of r ≡ halves (get_or w (2 * (64 * a + b)) 0) (get_or w (2 * (64 * a + b) + 1) 0) → Told r
-  unfolding tick_at
+  pub told_pair : b < 64 → (r : SimDuration) → duration_of r ≡ tick_at w (2 * (64 * a + b)) → Told r
   told_pair l = told _ (in_column w a b l)

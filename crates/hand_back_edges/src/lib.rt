@@ -44,17 +44,9 @@ pub fn find_edges<'a>(edges: &'a [u64], count: usize, places: &'a [u64], table: 
     requires { CanFind edges.now count places.now table.old }
     ensures { Found edges.now count places.now table.new }
 {
-    let mut i = count;
-    while 0 < i {
-        i -= 1;
+    for i in (0..count).rev() {
         put_edge(edges, i, places, table);
     }
-}
-
-fn wide(x: u16) -> usize
-    ensures { result ≡ x }
-{
-    x as usize
 }
 
 // The entry `to` of a row.
@@ -62,15 +54,16 @@ fn entry_in(table: &[u16], row: usize, to: usize) -> usize
     requires { (0 < row) × (64 * row ≤ length table.now) × (to < 64) }
     ensures { result ≡ get_or table.now (64 * (row - 1) + to) 0 }
 {
-    wide(table[64 * (row - 1) + to])
+    usize::from(table[64 * (row - 1) + to])
 }
 
 // The lookahead of edge i.
+#[tactic(auto, unfolding(records::specs::Records::edge_at))]
 fn lookahead_at(edges: &[u64], i: usize) -> SimDuration
     requires { 6 * i + 6 ≤ length edges.now }
     ensures { duration_of result ≡ (edge_at edges.now i).lookahead }
 {
-    SimDuration::from_ticks(edges[6 * i + 2], edges[6 * i + 3])
+    words::duration_in(edges, 6 * i + 2)
 }
 
 // The lookahead of the edge that e goes along; 0 where its emitter has no event in hand or no edge leads
@@ -117,9 +110,7 @@ pub fn find_lookaheads(edges: &[u64], count: usize, table: &mut [u64])
     requires { CanFindLookaheads edges.now count table.old }
     ensures { FoundLookaheads (edges_of count edges.now) table.new }
 {
-    let mut i = count;
-    while 0 < i {
-        i -= 1;
+    for i in (0..count).rev() {
         put_lookahead(edges, i, table);
     }
 }
@@ -135,5 +126,5 @@ pub fn lookahead_in(table: &[u64], e: Emission) -> SimDuration
         return SimDuration::zero();
     }
     let at = 2 * (64 * from as usize + to as usize);
-    SimDuration::from_ticks(table[at], table[at + 1])
+    words::duration_in(table, at)
 }

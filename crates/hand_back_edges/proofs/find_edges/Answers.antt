@@ -7,7 +7,7 @@ loop-i-init c = search finding_start depth 1
 
 pub put_edge-requires : goal.put_edge-requires
 put_edge-requires c =
-    finding_asks _ c.args.count _ _ c.requires _ _ c.loop-i.invariant c.loop-i-test.true
+    finding_asks _ c.args.count _ _ c.requires _ _ c.loop-i.invariant c.loop-i-test.true (search rules)
 
 pub loop-i-preserved : goal.loop-i-preserved
 loop-i-preserved c = search (finding_more, rules)

@@ -7,7 +7,7 @@ loop-i-init c = search telling_start depth 1
 
 pub put_lookahead-requires : goal.put_lookahead-requires
 put_lookahead-requires c =
-    telling_asks _ c.args.count _ c.requires _ _ c.loop-i.invariant c.loop-i-test.true
+    telling_asks _ c.args.count _ c.requires _ _ c.loop-i.invariant c.loop-i-test.true (search rules)
 
 pub loop-i-preserved : goal.loop-i-preserved
 loop-i-preserved c = search (telling_more, rules)
