@@ -1,18 +1,21 @@
 -- Edges go on record from the last to the first; and what a record says is the rules' frontier.
-use mathlib.Core.Path.{◌≡◌, refl, ap, ◌∙◌}
+use mathlib.Core.Path.{◌≡◌, refl, sym, ap, ◌∙◌}
 use mathlib.Core.Logic.{⊎_elim}
-use mathlib.Core.List.{List, [], ◌∷◌, map}
+use mathlib.Core.List.{List, [], ◌∷◌, ◌++◌, map}
 use Prim.Native.Nat.{ℕ, zero, suc, ◌+◌, ◌-◌, ◌*◌, ◌≤◌, ◌<◌, min}
 use native.Mathlib.Omega.{arith}
-use lib.ListN.{length, get_or}
+use lib.ListN.{length, get_or, take, get_or-append}
+use lib.Seq.{length-take-le, get_or-take, get_or-append-add}
+use borrow.Rule.Slice.PartMut.{mid_of, put_mid}
 use borrow.Author.Tests.{eqb-true, eqb-false}
 use Rattle.types.specs.declared.SimTime.{SimTime}
 use Rattle.types.specs.Value.{ticks_of}
 use Rattle.types.proofs.Halves.{lt_or_ge}
-use Rattle.words.specs.Words.{tab, tick_at, tick_of, put_tick, LowersTick, inbound_at, inbounds_of}
+use Rattle.words.specs.Words.{tab, tick_at, tick_of, filled, LowersTick, inbound_at, inbounds_of}
 use Rattle.words.proofs.Tab.{tab_cong, tab_step, tab_none, tab_whole}
-use Rattle.words.proofs.Ticks.{table_same, table_other}
+use Rattle.words.proofs.Ticks.{tick_cong, fill_at, table_same, table_other}
 use Rattle.records.specs.Records.{edge_at, edges_of}
+use Rattle.records.proofs.Moved.{tail_back}
 use Rattle.rules.specs.Base.{up_from, up_to}
 use Rattle.rules.specs.State.{Edge, max_tick}
 use Rattle.rules.specs.Frontiers.{least_into, least_inbound, inbound_of, recorded, safe}
@@ -39,28 +42,25 @@ recorded_more n e es w₀ w u r l = record {
   horizons = λ p h. l.others p (λ x. omega arith) ∙ r.horizons p h;
 }
 
--- The largest tick is stored for the processes from i on.
-pub record Resetting (n i : ℕ) (w₀ w : List ℕ) : Type 0 where
-  pub within : i ≤ n
-  pub done : (p : ℕ) → i ≤ p → p < n → inbound_at w p ≡ max_tick
-  pub horizons : (p : ℕ) → p < 64 → tick_of w p ≡ tick_of w₀ p
+-- The ticks of n processes from place 64 on are filled with the largest; those in front of them stay.
+module _ (w f : List ℕ) (l : length w ≡ 256) where
+  fore : length (take 128 w) ≡ 128
+  fore = let h : 128 ≤ length w = omega arith in length-take-le 128 w h
 
-pub resetting_start : (n : ℕ) (w : List ℕ) → Resetting n n w w
-resetting_start n w = record { within = omega arith; done = λ p a b. absurd (omega arith); horizons = λ p h. refl }
+  behind : (j k : ℕ) → k ≡ 128 + j → get_or (take 128 w ++ f) k 0 ≡ get_or f j 0
+  behind j k e =
+      let u = take 128 w ++ f in
+      ap (λ (x : ℕ). get_or u x 0) e ∙ ap (λ (x : ℕ). get_or u (x + j) 0) (sym fore) ∙ get_or-append-add (take 128 w) f j 0
 
-pub resetting_more : (n i : ℕ) (w₀ w u : List ℕ) (t : SimTime) → 0 < i → n ≤ 64 → length w ≡ 256 → ticks_of t ≡ max_tick → Resetting n i w₀ w → u ≡ put_tick w (2 * (64 + (i - 1))) t → Resetting n (i - 1) w₀ u
-resetting_more n i w₀ w u t h few l e r eu = rw eu (record {
-  within = omega (arith, r.within);
-  done = λ p a b. ⊎_elim
-      (λ (x : i - 1 < p). table_other w (64 + (i - 1)) (64 + p) t (λ z. omega arith) ∙ r.done p (omega arith) b)
-      (λ (x : p ≤ i - 1). let z : p ≡ i - 1 = omega arith in rw z (table_same w (64 + (i - 1)) t (omega (arith, r.within)) ∙ e))
-      (lt_or_ge (i - 1) p);
-  horizons = λ p x. table_other w (64 + (i - 1)) p t (λ z. omega arith) ∙ r.horizons p x;
-})
+  ahead : (k : ℕ) → k < 128 → get_or (take 128 w ++ f) k 0 ≡ get_or w k 0
+  ahead k h = let g : k < length (take 128 w) = rw fore h in get_or-append (take 128 w) f 0 k g ∙ get_or-take 128 w k 0 h
 
-pub resetting_end : (n i : ℕ) (w₀ w : List ℕ) → i ≤ 0 → Resetting n i w₀ w → RecordsInbound n [] w₀ w
-unfolding least_into
-resetting_end n i w₀ w o r = record { inbound = λ p h. r.done p (omega arith) h; horizons = r.horizons }
+  pub reset_holds : (n : ℕ) (t : SimTime) → n ≤ 64 → ticks_of t ≡ max_tick → f ≡ filled n t (mid_of 128 (length w - 128) w) → RecordsInbound n [] w (put_mid 128 (length w - 128) w f)
+  unfolding least_into
+  reset_holds n t few e q = rw (tail_back 128 w f) (record {
+    inbound = λ p h. tick_cong (take 128 w ++ f) f (2 * (64 + p)) (2 * p) (behind (2 * p) _ (omega arith)) (behind (2 * p + 1) _ (omega arith)) ∙ rw q (fill_at n p t _ h) ∙ e;
+    horizons = λ p h. tick_cong (take 128 w ++ f) w (2 * p) (2 * p) (ahead (2 * p) (omega arith)) (ahead (2 * p + 1) (omega arith));
+  })
 
 -- The edges from i on are on record.
 module _ (edges : List ℕ) (m n : ℕ) (w₀ : List ℕ) where

@@ -2,7 +2,8 @@
 // without inbound edges. A frontier is read from it.
 //
 // It stands in the table of the processes (`horizons_of`, `inbounds_of` in specs/Words.antt of words),
-// from place 64 on. These are leaves: each asks that the words it touches are there.
+// from place 64 on. These are leaves: each asks that the words it touches are there. That the table has 256
+// words stays a clause beside a slice: the caller in C lends it as one.
 
 #![tactic(auto)]
 
@@ -28,11 +29,7 @@ pub fn reset(processes: &mut [u64], n: usize)
     ensures { RecordsInbound n [] processes.old processes.new }
 {
     let largest = SimTime::largest();
-    let mut p = n;
-    while 0 < p {
-        p -= 1;
-        words::put_tick(processes, 2 * (64 + p), largest);
-    }
+    words::fill(&mut processes[128..], n, largest);
 }
 
 // Edge i goes on record: the tick of its destination falls to its bound, if that is lower.
@@ -51,9 +48,7 @@ pub fn record_inbound(edges: &[u64], count: usize, n: usize, processes: &mut [u6
     ensures { RecordsInbound n (edges_of count edges.now) processes.old processes.new }
 {
     reset(processes, n);
-    let mut i = count;
-    while 0 < i {
-        i -= 1;
+    for i in (0..count).rev() {
         lower(edges, i, processes);
     }
 }
