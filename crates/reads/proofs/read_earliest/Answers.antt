@@ -1,12 +1,12 @@
-use Rattle.foreign.proofs.Grouped.{foreign_is}
-use Rattle.reads.proofs.Reading.{can_pass, earliest_foreign, earliest_read}
+use Rattle.reads.proofs.Answering.{of_earliest, refused, passed, earliest_is, can_pass}
 use Rattle.reads.proofs.read_earliest.Goals as goal
 
-pub returns-then-is_foreign : goal.returns-then-is_foreign
-returns-then-is_foreign c = earliest_foreign _ (search foreign_is depth 1) _
+pub returns-in_err-check : goal.returns-in_err-check
+returns-in_err-check c = refused _ _ _ _ (of_earliest _ _) _ c.in_err-check.ensures _ c.from_residual.ensures.1
 
-pub least_tick-requires : goal.least_tick-requires
-least_tick-requires c = search (can_pass, foreign_is) depth 2
+pub least_tick-earliest-requires : goal.least_tick-earliest-requires
+least_tick-earliest-requires c = can_pass _ c.in_ok-check.ensures (search depth 2)
 
 pub returns : goal.returns
-returns c = earliest_read _ (search foreign_is depth 1) _ _ _ c.least_tick.ensures (search depth 0)
+returns c =
+    passed _ _ _ _ (of_earliest _ _) c.in_ok-check.ensures _ (earliest_is c.args.state _ _ c.least_tick-earliest.ensures c.largest-largest.ensures)

@@ -1,9 +1,9 @@
-use Rattle.foreign.proofs.Grouped.{foreign_is}
-use Rattle.reads.proofs.Reading.{gvt_foreign, gvt_read}
+use mathlib.Core.Path.{refl}
+use Rattle.reads.proofs.Answering.{of_gvt, refused, passed}
 use Rattle.reads.proofs.read_gvt.Goals as goal
 
-pub returns-then-is_foreign : goal.returns-then-is_foreign
-returns-then-is_foreign c = gvt_foreign _ (search foreign_is depth 1) _
+pub returns-in_err-check : goal.returns-in_err-check
+returns-in_err-check c = refused _ _ _ _ (of_gvt _ _) _ (c.in_err-check.ensures) _ c.from_residual.ensures.1
 
 pub returns : goal.returns
-returns c = gvt_read _ (search foreign_is depth 1) _
+returns c = passed _ _ _ _ (of_gvt _ _) c.in_ok-check.ensures _ refl
