@@ -1,16 +1,17 @@
 -- Numbers that rise, and those below n that are looked for among them in turn.
+use Rattle.std.specs.List.{IsAllAdjacentAnswer}
 use mathlib.Core.Path.{◌≡◌, refl, sym, ap, ◌∙◌}
-use mathlib.Core.Bool.{true, false, ◌&&◌, true≢false}
+use mathlib.Core.Bool.{Bool, true, false, true≢false}
 use mathlib.Core.List.{List, [], ◌∷◌}
-use Prim.Native.Nat.{ℕ, zero, suc, ◌+◌, ◌-◌, ◌^◌, ◌≤◌, ◌<◌}
-use native.Mathlib.Nat.{two-pow-succ}
+use Prim.Native.Nat.{ℕ, zero, suc, ◌+◌, ◌-◌, ◌*◌, ◌%◌, ◌^◌, ◌≤◌, ◌<◌}
+use native.Mathlib.Nat.{two-pow-succ, one-mul, mod-eq_of_lt}
 use native.Mathlib.Numerals.{add-one}
 use native.Mathlib.Omega.{arith}
 use lib.Dec.{ltb, eqb}
-use lib.ListN.{length, get_or, drop, length-drop, drop_of_length-le}
-use lib.Seq.{drop-cons, drop-drop}
-use lib.Pow.{pow_mono}
-use borrow.Author.Tests.{ltb-true, lt-ltb, le-ltb, eqb-true, eqb-false, eq-eqb, ne_eqb, le-leb, lt-leb}
+use lib.ListN.{length, get_or, drop, length-drop}
+use lib.Seq.{drop-drop}
+use lib.Pow.{pow_mono, pow-lt}
+use borrow.Author.Tests.{ltb-true, eqb-true, eqb-false, eq-eqb, ne_eqb, le-leb, lt-leb}
 use Rattle.rules.specs.Base.{if◌then◌otherwise◌, none, some, up_from, up_to, any, member, count, rising}
 use Rattle.rules.specs.Build.{missing, unexpected, least_without_row}
 use Rattle.rules.proofs.Tests.{and_off, by_bool}
@@ -18,49 +19,24 @@ use Rattle.rules.proofs.Lists.{All, all_map, none_any}
 use Rattle.rules.proofs.Order.{Pairs, rising_pairs}
 use Rattle.build_ids.specs.Checks.{starts_with, RisingIds, checked_ids, missing_row_in, missing_row}
 
--- 3: what is left of the list, from the number before place i on
+-- 3: whether each number is above the one before it, as is_sorted_by answers it
 
-rising_more : (xs : List ℕ) (i : ℕ) → suc i < length xs → rising ltb (drop i xs) ≡ ltb (get_or xs i 0) (get_or xs (suc i) 0) && rising ltb (drop (suc i) xs)
+rising_all : (xs : List ℕ) → ((k : ℕ) → suc k < length xs → ltb (get_or xs k 0) (get_or xs (suc k) 0) ≡ true) → rising ltb xs ≡ true
 unfolding rising
-rising_more [] i h = absurd (omega arith)
-rising_more (x ∷ []) i h = absurd (omega arith)
-rising_more (x ∷ y ∷ ys) zero h = refl
-rising_more (x ∷ y ∷ ys) (suc i) h = rising_more (y ∷ ys) i (omega arith)
+rising_all [] h = refl
+rising_all (x ∷ []) h = refl
+rising_all (x ∷ y ∷ ys) h = rw (h 0 (omega arith)) (rising_all (y ∷ ys) (λ k l. h (suc k) (omega arith)))
 
-rising_last : (xs : List ℕ) (i : ℕ) → length xs ≤ suc i → rising ltb (drop i xs) ≡ true
+rising_stops : (xs : List ℕ) (k : ℕ) → suc k < length xs → ltb (get_or xs k 0) (get_or xs (suc k) 0) ≡ false → rising ltb xs ≡ false
 unfolding rising
-rising_last [] zero h = refl
-rising_last [] (suc i) h = refl
-rising_last (x ∷ []) zero h = refl
-rising_last (x ∷ y ∷ ys) zero h = absurd (omega arith)
-rising_last (x ∷ xs) (suc i) h = rising_last xs i (omega arith)
+rising_stops [] k l h = absurd (omega arith)
+rising_stops (x ∷ []) k l h = absurd (omega arith)
+rising_stops (x ∷ y ∷ ys) zero l h = and_off _ _ h
+rising_stops (x ∷ y ∷ ys) (suc k) l h = by_bool (ltb x y) (λ e. rw e (rising_stops (y ∷ ys) k (omega arith) h)) (λ e. rw e)
 
-module _ (xs : List ℕ) where
-  pub rising_stops : (i : ℕ) → 1 ≤ i → i < length xs → get_or xs i 0 ≤ get_or xs (i - 1) 0 → rising ltb (drop (i - 1) xs) ≡ false
-  rising_stops zero o h l = absurd (omega arith)
-  rising_stops (suc i) o h l =
-      let e : suc i - 1 ≡ i = omega arith in
-      rw e (rising_more xs i h ∙ and_off _ _ (le-ltb _ _ (rw e at l)))
-
-  pub rising_on : (i : ℕ) → 1 ≤ i → i < length xs → get_or xs (i - 1) 0 < get_or xs i 0 → rising ltb (drop (i - 1) xs) ≡ rising ltb (drop (i + 1 - 1) xs)
-  rising_on zero o h l = absurd (omega arith)
-  rising_on (suc i) o h l =
-      let e : suc i - 1 ≡ i = omega arith in
-      let f : suc i + 1 - 1 ≡ suc i = omega arith in
-      rw (e, f) (rising_more xs i h ∙ rw (lt-ltb (get_or xs i 0) (get_or xs (suc i) 0) (rw e at l)))
-
-  pub rising_ends : (i : ℕ) → 1 ≤ i → length xs ≤ i → rising ltb (drop (i - 1) xs) ≡ true
-  rising_ends zero o h = absurd (omega arith)
-  rising_ends (suc i) o h = let e : suc i - 1 ≡ i = omega arith in rw e (rising_last xs i h)
-
--- The number at a place
-
-module _ (xs : List ℕ) (at p : ℕ) where
-  pub starts_at : at < length xs → starts_with p (drop at xs) ≡ eqb (get_or xs at 0) p
-  starts_at h = rw (drop-cons xs at 0)
-
-  pub starts_none : length xs ≤ at → starts_with p (drop at xs) ≡ false
-  starts_none h = rw (drop_of_length-le xs h)
+pub rising_answer : (xs : List ℕ) (r : Bool) → IsAllAdjacentAnswer (λ x y b. b ≡ ltb x y) xs r → r ≡ rising ltb xs
+rising_answer xs true h = sym (rising_all xs (λ k l. rw add-one at (sym (h k 0 (rw add-one l)))))
+rising_answer xs false (k, l, h) = sym (rising_stops xs k (rw add-one at l) (rw add-one at (sym (h 0))))
 
 -- Numbers from p on that rise
 
@@ -151,8 +127,13 @@ next n p h = omega arith
 twice : (p : ℕ) → 2 ^ (p + 1) ≡ 2 ^ p + 2 ^ p
 twice p = rw add-one (two-pow-succ p)
 
-pub mask_fits : (n p m q : ℕ) → n ≤ 64 → p < n → m < 2 ^ p → q ≡ 2 ^ p → m + q < 2 ^ 64
-mask_fits n p m q f l h e = let k : 2 ^ (p + 1) ≤ 2 ^ 64 = pow_mono {i = p + 1} {j = 64} (omega arith) in omega (arith, twice p)
+-- The bit of p, as a shift makes it, and room for it above the bits of the numbers below p.
+module _ (n p : ℕ) (few : n ≤ 64) (l : p < n) where
+  pub bit_is : 1 * 2 ^ p % 2 ^ 64 ≡ 2 ^ p
+  bit_is = let h : 2 ^ p < 2 ^ 64 = pow-lt {j = 64} (omega arith) in rw one-mul (mod-eq_of_lt h)
+
+  pub mask_fits : (m : ℕ) → m < 2 ^ p → m + 1 * 2 ^ p % 2 ^ 64 < 2 ^ 64
+  mask_fits m h = let k : 2 ^ (p + 1) ≤ 2 ^ 64 = pow_mono {i = p + 1} {j = 64} (omega arith) in omega (arith, twice p, bit_is)
 
 module _ (n : ℕ) (ids : List ℕ) where
   pub met_none : RisingIds n ids → Met n ids 0 0 0

@@ -16,41 +16,18 @@ pub struct IdMismatch {
     pub unexpected: u64,
 }
 
-pub fn widen(x: u32) -> u64
-    ensures { result ≡ x }
-{
-    x as u64
-}
-
-fn power_of_two(p: u64) -> u64
-    requires { p < 64 }
-    ensures { result ≡ 2 ^ p }
-{
-    1u64 << p
-}
-
 // Whether p is the number at that place.
 fn is_at(xs: &[u32], at: usize, p: u64) -> bool
     ensures { result ≡ starts_with p (drop at xs.now) }
 {
-    if at < xs.len() {
-        return widen(xs[at]) == p;
-    }
-    false
+    xs.get(at).is_some_and(|&x| u64::from(x) == p)
 }
 
 // 3, and 5 of the row sources: whether each number is above the one before it.
 pub fn rising(xs: &[u32]) -> bool
     ensures { result ≡ rising ltb xs.now }
 {
-    let mut i: usize = 1;
-    while i < xs.len() {
-        if xs[i] <= xs[i - 1] {
-            return false;
-        }
-        i += 1;
-    }
-    true
+    xs.is_sorted_by(|x, y| x < y)
 }
 
 // 4, of ids that rise: the numbers below n are looked for in turn, each where the last one ended.
@@ -60,18 +37,16 @@ pub fn check_ids(ids: &[u32], n: u64) -> IdMismatch
 {
     let mut missing: u64 = 0;
     let mut at: usize = 0;
-    let mut id: u64 = 0;
-    while id < n {
+    for id in 0..n {
         if is_at(ids, at, id) {
             at += 1;
         } else {
-            missing += power_of_two(id);
+            missing += 1 << id;
         }
-        id += 1;
     }
     let left = ids.len() - at;
     IdMismatch {
-        missing: missing,
+        missing,
         unexpected: left as u64,
     }
 }
