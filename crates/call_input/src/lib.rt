@@ -3,11 +3,11 @@
 
 #![tactic(auto)]
 
-ghost use Rattle.std.specs.Prelude.{◌≡◌, ◌≤◌, length};
+ghost use Rattle.std.specs.Prelude.{◌≤◌, IfSome};
 
 use call_words::{ADD_INITIAL, BEGIN, HAND_BACK, MAX_ITEMS};
 use state::{Counters, Header, Runtime};
-use text_input::{Next, STDIN_FILENO};
+use text_input::STDIN_FILENO;
 use types::{SimDuration, SimTime};
 
 // The most words that a call has: tag, mask and number, and 4,096 emissions.
@@ -16,41 +16,48 @@ pub const CALL_WORDS: usize = 32771;
 // The most words that the lookaheads of a build have: two for each of 4,096 destinations.
 pub const LOOKAHEAD_WORDS: usize = 8192;
 
-// How many things or words came where the input could not be decoded: more than a list may have.
-pub const BROKEN: usize = 8193;
-
 // The last tag.
 pub const PLAN: u64 = 8;
 
 // The words of a state behind its lookahead, its arrays apart.
 const STATE_WORDS: usize = 21;
 
-// A state, where all its words came.
+// A state given whole.
 #[derive(Clone, Copy)]
 pub struct GivenState {
-    pub whole: bool,
     pub state: Runtime,
     pub counters: Counters,
 }
 
+// Reads as many words as are lent, where there are so many.
+fn read_all(words: &mut [u64]) -> Option<()> {
+    if text_input::read_words(STDIN_FILENO, words) < words.len() {
+        return None;
+    }
+    Some(())
+}
+
+// So many things of `width` words to the front of these, where they have room; how many came.
+fn read_things(words: &mut [u64], width: usize, count: u64) -> Option<usize> {
+    let things = count as usize;
+    let end = things.checked_mul(width)?;
+    read_all(words.get_mut(..end)?)?;
+    Some(things)
+}
+
 // A number, and so many things of `width` words to the front of these; how many came.
-pub fn read_list(words: &mut [u64], width: usize) -> usize
-    requires { width ≤ 8 }
-{
-    let Next::Word(count) = text_input::read_word(STDIN_FILENO) else {
-        return BROKEN;
-    };
+pub fn read_list(words: &mut [u64], width: usize) -> Option<usize> {
+    let count = text_input::read_word(STDIN_FILENO)?;
     if MAX_ITEMS < count {
-        return BROKEN;
+        return None;
     }
-    let end = width * count as usize;
-    if words.len() < end {
-        return BROKEN;
-    }
-    if text_input::read_words(STDIN_FILENO, &mut words[..end]) < end {
-        return BROKEN;
-    }
-    count as usize
+    read_things(words, width, count)
+}
+
+// A number of words, and these words to the front of w, which holds them; how many came.
+pub fn read_array(w: &mut [u64]) -> Option<usize> {
+    let count = text_input::read_word(STDIN_FILENO)?;
+    read_things(w, 1, count)
 }
 
 // How many words stand behind a tag; of a hand back, those before its emissions.
@@ -65,72 +72,48 @@ fn words_behind(tag: u64) -> usize
     }
 }
 
-// The emissions of a hand back, behind its first three words; how many words it has, or 0.
-fn read_emissions(words: &mut [u64]) -> usize
-    requires { length words.old ≡ 32771 }
-    ensures { result ≤ 32771 }
+// The emissions of a hand back, behind its first three words; how many words it has.
+fn read_emissions(words: &mut [u64; CALL_WORDS]) -> Option<usize>
+    ensures { IfSome result (λ n. n ≤ 32771) }
 {
     let emitted = words[2];
     if MAX_ITEMS < emitted {
-        return 0;
+        return None;
     }
     let end = 3 + 8 * emitted as usize;
-    if text_input::read_words(STDIN_FILENO, &mut words[3..end]) < end - 3 {
-        return 0;
-    }
-    end
+    read_all(&mut words[3..end])?;
+    Some(end)
 }
 
-// The words behind the tag, which stands in the first word; how many words the call has, or 0.
-fn read_behind(words: &mut [u64], tag: u64) -> usize
-    requires { length words.old ≡ 32771 }
-    ensures { result ≤ 32771 }
+// The words behind the tag, which stands in the first word; how many words the call has.
+fn read_behind(words: &mut [u64; CALL_WORDS], tag: u64) -> Option<usize>
+    ensures { IfSome result (λ n. n ≤ 32771) }
 {
     let end = 1 + words_behind(tag);
-    if text_input::read_words(STDIN_FILENO, &mut words[1..end]) < end - 1 {
-        return 0;
-    }
+    read_all(&mut words[1..end])?;
     if tag == HAND_BACK {
         return read_emissions(words);
     }
-    end
+    Some(end)
 }
 
-// The words of the next call go to the front of these; how many it has, or 0 where the input has none.
-// Of a plan it is the tag alone.
-pub fn read_call(words: &mut [u64]) -> usize
-    requires { length words.old ≡ 32771 }
-    ensures { result ≤ 32771 }
+// The words of the next call, where the input has one, go to the front of these; how many it has. Of a
+// plan it is the tag alone.
+pub fn read_call(words: &mut [u64; CALL_WORDS]) -> Option<usize>
+    ensures { IfSome result (λ n. n ≤ 32771) }
 {
-    if text_input::read_words(STDIN_FILENO, &mut words[0..1]) < 1 {
-        return 0;
-    }
-    let tag = words[0];
+    let tag = text_input::read_word(STDIN_FILENO)?;
+    words[0] = tag;
     if PLAN < tag {
-        return 0;
+        return None;
     }
     read_behind(words, tag)
 }
 
-// A number of words, and these words to the front of w, which holds them; how many came.
-pub fn read_array(w: &mut [u64]) -> usize {
-    let Next::Word(count) = text_input::read_word(STDIN_FILENO) else {
-        return BROKEN;
-    };
-    if (w.len() as u64) < count {
-        return BROKEN;
-    }
-    let end = count as usize;
-    if text_input::read_words(STDIN_FILENO, &mut w[..end]) < end {
-        return BROKEN;
-    }
-    end
-}
-
-fn header_of(lookahead: SimDuration, w: [u64; STATE_WORDS]) -> Header {
+fn header_of(lookahead: SimDuration, w: &[u64; STATE_WORDS]) -> Header {
     Header {
         n: w[0] as usize,
-        lookahead: lookahead,
+        lookahead,
         edges: w[12] as usize,
         pending: w[13] as usize,
         batch: w[14] as usize,
@@ -146,7 +129,7 @@ fn header_of(lookahead: SimDuration, w: [u64; STATE_WORDS]) -> Header {
     }
 }
 
-fn counters_of(w: [u64; STATE_WORDS]) -> Counters {
+fn counters_of(w: &[u64; STATE_WORDS]) -> Counters {
     Counters {
         processed_events: w[15],
         emitted_events: w[16],
@@ -157,27 +140,28 @@ fn counters_of(w: [u64; STATE_WORDS]) -> Counters {
     }
 }
 
-// A state given whole, behind its lookahead. Words of its arrays that are not given are 0.
-pub fn read_state(lookahead: SimDuration) -> GivenState {
+// A state given whole, behind its lookahead, where all its words come. Words of its arrays that are not
+// given are 0.
+pub fn read_state(lookahead: SimDuration) -> Option<GivenState> {
     let mut w = [0u64; STATE_WORDS];
+    read_all(&mut w)?;
     let mut edges = [0u64; 3072];
+    read_array(&mut edges)?;
     let mut pending = [0u64; 4096];
+    read_array(&mut pending)?;
     let mut processes = [0u64; 256];
+    read_array(&mut processes)?;
     let mut batch = [0u64; 512];
-    let whole = text_input::read_words(STDIN_FILENO, &mut w) == STATE_WORDS
-        && read_array(&mut edges) < BROKEN
-        && read_array(&mut pending) < BROKEN
-        && read_array(&mut processes) < BROKEN
-        && read_array(&mut batch) < BROKEN;
-    GivenState {
-        whole: whole,
+    read_array(&mut batch)?;
+    let head = header_of(lookahead, &w);
+    Some(GivenState {
         state: Runtime {
-            edges: edges,
-            pending: pending,
-            processes: processes,
-            batch: batch,
-            head: header_of(lookahead, w),
+            edges,
+            pending,
+            processes,
+            batch,
+            head,
         },
-        counters: counters_of(w),
-    }
+        counters: counters_of(&w),
+    })
 }
