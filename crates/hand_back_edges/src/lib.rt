@@ -67,7 +67,7 @@ fn lookahead_at(edges: &[u64], i: usize) -> SimDuration
 }
 
 // The lookahead of the edge that e goes along; 0 where its emitter has no event in hand or no edge leads
-// there.
+// there. Kept as 0, and not None: the rules' own lookahead_along is 0 there, and each contract says that.
 pub fn lookahead_of<'a>(
     edges: &'a [u64],
     table: &'a [u16],

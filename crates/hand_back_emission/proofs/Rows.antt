@@ -2,6 +2,7 @@
 use mathlib.Core.Path.{◌≡◌, refl, sym, ap, ◌∙◌}
 use mathlib.Core.Bool.{Bool, true, false, not, ◌||◌}
 use mathlib.Core.List.{List, [], ◌∷◌}
+use Rattle.std.specs.Prelude.{Option, Some, None, Ok, Err}
 use Prim.Native.Nat.{ℕ, zero, suc, ◌+◌, ◌-◌, ◌*◌, ◌^◌, ◌≤◌, ◌<◌}
 use native.Mathlib.Omega.{arith}
 use lib.Dec.{leb, ltb, eqb}
@@ -9,8 +10,6 @@ use lib.ListN.{get_or}
 use borrow.Author.Tests.{lt-ltb, le-ltb, le-leb, lt-leb}
 use Rattle.types.specs.declared.SimTime.{SimTime}
 use Rattle.types.specs.declared.SimDuration.{SimDuration}
-use Rattle.types.specs.declared.Added.{Added}
-use Rattle.types.specs.declared.Added.TheVariants.{Sum, Overflow}
 use Rattle.types.specs.Value.{halves, ticks_of, duration_of, lp_id_of, IsSum}
 use Rattle.types.proofs.Halves.{Whole, halves_fit}
 use Rattle.words.specs.Words.{tab, tick_at, horizons_of}
@@ -25,10 +24,9 @@ use Rattle.rules.proofs.Tests.{or_left, or_right}
 use Rattle.reply_words.specs.declared.Emission.{Emission}
 use Rattle.reply_words.specs.Emissions.{emission_of}
 use Rattle.state.specs.declared.Header.{Header}
-use Rattle.state.specs.declared.Answer.TheVariants as P
-use Rattle.hand_back_emission.specs.declared.CheckResult.{CheckResult}
+use Rattle.state.specs.declared.Refusal.TheVariants as P
 use Rattle.hand_back_emission.specs.Checks.{ChecksRows, tick_rows, rows_of, ChecksEmission}
-use Rattle.hand_back_emission.proofs.Checks.{refusing, passing, nothing, struck, go_by}
+use Rattle.hand_back_emission.proofs.Checks.{Verdict, nothing, struck, go_by}
 
 -- The minimum.
 module _ (e : Emission) (time : SimTime) (l : SimDuration) where
@@ -36,11 +34,11 @@ module _ (e : Emission) (time : SimTime) (l : SimDuration) where
   least = minimum (duration_of l) (lp_id_of e.emitter) (ticks_of time) (emission_of e).message
 
   module _ (x : Bool) (same : x ≡ eqb (lp_id_of e.destination) (lp_id_of e.emitter)) where
-    pub own_minimum : x ≡ true → Whole time.hi time.lo → IsSum least (Sum time)
+    pub own_minimum : x ≡ true → Whole time.hi time.lo → IsSum least (Some time)
     unfolding minimum if◌then◌otherwise◌
     own_minimum o w = rw (sym same ∙ o) (halves_fit time.hi time.lo w, refl)
 
-    pub far_minimum : x ≡ false → (r : Added) → IsSum (ticks_of time + duration_of l) r → IsSum least r
+    pub far_minimum : x ≡ false → (r : Option SimTime) → IsSum (ticks_of time + duration_of l) r → IsSum least r
     unfolding minimum if◌then◌otherwise◌
     far_minimum n r a = rw (sym same ∙ n) a
 
@@ -56,12 +54,12 @@ local_at Z n d h = let e : 0 + d ≡ d = omega arith in rw e at (tab_at (λ (i :
 
 -- 32 and 33.
 module _ (Z : List ℕ) (e : Emission) (time least : SimTime) (x : Bool) (early : x ≡ ltb (ticks_of e.tick) (ticks_of least)) where
-  abbrev rows : CheckResult → Type 0
+  abbrev rows : Verdict → Type 0
   rows v = ChecksRows (tick_rows (emission_of e) (ticks_of time) (ticks_of least) (tick_at Z (2 * lp_id_of e.destination))) v
 
-  pub violation : x ≡ true → rows (refusing (P.OutboundLookaheadViolation e.emitter time e.tick least))
+  pub violation : x ≡ true → rows (Err (P.OutboundLookaheadViolation e.emitter time e.tick least))
   unfolding tick_rows
-  violation t = struck _ _ _ (sym early ∙ t) (λ es. refl)
+  violation t = struck _ _ (P.OutboundLookaheadViolation e.emitter time e.tick least) (sym early ∙ t) refl
 
   module _ (t : x ≡ false) (d : ℕ) (same : d ≡ lp_id_of e.destination) (local : SimTime) (l : ticks_of local ≡ tick_at Z (2 * d)) (y : Bool) (late : y ≡ ltb (ticks_of e.tick) (ticks_of local)) where
     local_is : ticks_of local ≡ tick_at Z (2 * lp_id_of e.destination)
@@ -70,11 +68,11 @@ module _ (Z : List ℕ) (e : Emission) (time least : SimTime) (x : Bool) (early 
     late_as : (u : Bool) → y ≡ u → ltb (ticks_of e.tick) (tick_at Z (2 * lp_id_of e.destination)) ≡ u
     late_as u k = ap (ltb (ticks_of e.tick)) (sym local_is) ∙ sym late ∙ k
 
-    pub straggler : y ≡ true → rows (refusing (P.Straggler e.destination e.tick local))
+    pub straggler : y ≡ true → rows (Err (P.Straggler e.destination e.tick local))
     unfolding tick_rows
-    straggler u = go_by _ _ _ (sym early ∙ t) (struck _ _ _ (late_as true u) (λ es. ap (λ (k : ℕ). A.Refused (A.Straggler (lp_id_of e.destination) (ticks_of e.tick) k)) local_is))
+    straggler u = go_by _ _ _ (sym early ∙ t) (struck _ _ (P.Straggler e.destination e.tick local) (late_as true u) (ap (A.Straggler (lp_id_of e.destination) (ticks_of e.tick)) local_is))
 
-    pub in_time : y ≡ false → rows passing
+    pub in_time : y ≡ false → rows (Ok tt)
     unfolding tick_rows
     in_time u = go_by _ _ _ (sym early ∙ t) (go_by _ _ _ (late_as false u) nothing)
 
@@ -112,20 +110,20 @@ module _ (e : Emission) (l : SimDuration) (x : Bool) (same : x ≡ eqb (lp_id_of
 
 -- 28 to 33, each row with those before it passed.
 module _ (h : Header) (l : SimDuration) (Z : List ℕ) (e : Emission) (time : SimTime) (x : Bool) (sx : x ≡ eqb (lp_id_of e.source) (lp_id_of e.emitter)) where
-  abbrev Rows : CheckResult → Type 0
+  abbrev Rows : Verdict → Type 0
   Rows v = ChecksEmission h (duration_of l) Z e time v
 
-  pub mismatch : x ≡ false → Rows (refusing (P.OutboundSourceMismatch e.emitter e.source))
+  pub mismatch : x ≡ false → Rows (Err (P.OutboundSourceMismatch e.emitter e.source))
   unfolding ChecksEmission rows_of
-  mismatch n E Q B f w = struck _ _ _ (ap not (sym sx ∙ n)) (λ es. refl)
+  mismatch n E Q B f w = struck _ _ (P.OutboundSourceMismatch e.emitter e.source) (ap not (sym sx ∙ n)) refl
 
   module _ (a : x ≡ true) (d : ℕ) (sd : d ≡ lp_id_of e.destination) where
     own : not (eqb (lp_id_of e.source) (lp_id_of e.emitter)) ≡ false
     own = ap not (sym sx ∙ a)
 
-    pub unknown : h.n ≤ d → Rows (refusing (P.UnknownOutboundDestination e.destination))
+    pub unknown : h.n ≤ d → Rows (Err (P.UnknownOutboundDestination e.destination))
     unfolding ChecksEmission rows_of
-    unknown m E Q B f w = go_by _ _ _ own (struck _ _ _ (le-leb h.n (lp_id_of e.destination) (rw sd at m)) (λ es. refl))
+    unknown m E Q B f w = go_by _ _ _ own (struck _ _ (P.UnknownOutboundDestination e.destination) (le-leb h.n (lp_id_of e.destination) (rw sd at m)) refl)
 
     module _ (m : d < h.n) (t : Bool) (et : t ≡ (eqb (lp_id_of e.emitter) (lp_id_of e.destination) || not (eqb (duration_of l) 0))) where
       below : lp_id_of e.destination < h.n
@@ -140,18 +138,18 @@ module _ (h : Header) (l : SimDuration) (Z : List ℕ) (e : Emission) (time : Si
       unfolding route
       missing E f w = rw (edge_or_none (edges_of h.edges E) (lp_id_of e.emitter) (lp_id_of e.destination) f, ← w) (ap not (sym et))
 
-      pub unrouted : t ≡ false → Rows (refusing (P.OutboundRouteMissing e.emitter e.destination))
+      pub unrouted : t ≡ false → Rows (Err (P.OutboundRouteMissing e.emitter e.destination))
       unfolding ChecksEmission rows_of
-      unrouted u E Q B f w = go_by _ _ _ own (go_by _ _ _ known (struck _ _ _ (missing E f w ∙ ap not u) (λ es. refl)))
+      unrouted u E Q B f w = go_by _ _ _ own (go_by _ _ _ known (struck _ _ (P.OutboundRouteMissing e.emitter e.destination) (missing E f w ∙ ap not u) refl))
 
-      module _ (u : t ≡ true) (r : Added) (s : IsSum (least e time l) r) where
-        pub overflow : r ≡ Overflow → Rows (refusing (P.LookaheadOverflow e.emitter time l))
+      module _ (u : t ≡ true) (r : Option SimTime) (s : IsSum (least e time l) r) where
+        pub overflow : r ≡ None → Rows (Err (P.LookaheadOverflow e.emitter time l))
         unfolding ChecksEmission rows_of
         overflow o E Q B f w =
             let k : 2 ^ 128 ≤ least e time l = rw o at s in
-            rw (← w) (go_by _ _ _ own (go_by _ _ _ known (go_by _ _ _ (missing E f w ∙ ap not u) (struck _ _ _ (over (2 ^ 128) _ positive k) (λ es. refl)))))
+            rw (← w) (go_by _ _ _ own (go_by _ _ _ known (go_by _ _ _ (missing E f w ∙ ap not u) (struck _ _ (P.LookaheadOverflow e.emitter time l) (over (2 ^ 128) _ positive k) refl))))
 
-        pub timed : (t : SimTime) → r ≡ Sum t → (v : CheckResult) → ChecksRows (tick_rows (emission_of e) (ticks_of time) (ticks_of t) (tick_at Z (2 * lp_id_of e.destination))) v → Rows v
+        pub timed : (t : SimTime) → r ≡ Some t → (v : Verdict) → ChecksRows (tick_rows (emission_of e) (ticks_of time) (ticks_of t) (tick_at Z (2 * lp_id_of e.destination))) v → Rows v
         unfolding ChecksEmission rows_of tick_rows
         timed t o v j E Q B f w =
             let k : (least e time l < 2 ^ 128) × (ticks_of t ≡ least e time l) = rw o at s in

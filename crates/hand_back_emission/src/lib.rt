@@ -10,29 +10,22 @@ ghost use Rattle.reply_words.specs.Emissions.{emission_of};
 ghost use Rattle.hand_back_emission.specs.Checks.{ChecksRows, tick_rows, CanCheck, ChecksEmission};
 
 use reply_words::Emission;
-use state::{Answer, Header};
-use types::{Added, SimDuration, SimTime};
-
-// Whether nothing is refused; where something is, `answer` is the refusal.
-#[derive(Clone, Copy)]
-pub struct CheckResult {
-    pub passed: bool,
-    pub answer: Answer,
-}
+use state::{Header, Refusal};
+use types::{SimDuration, SimTime};
 
 // "The minimum tick is the event's tick for an emission to oneself, else that tick + L." A.4: L is that
 // of the edge.
-fn minimum_tick(e: Emission, time: SimTime, lookahead: SimDuration) -> Added
+fn minimum_tick(e: Emission, time: SimTime, lookahead: SimDuration) -> Option<SimTime>
     ensures { IsSum (minimum (duration_of lookahead) (lp_id_of e.emitter) (ticks_of time) (emission_of e).message) result }
 {
     if e.destination.eq(e.emitter) {
-        return Added::Sum(time);
+        return Some(time);
     }
     time.checked_add(lookahead)
 }
 
 // 32 and 33 of an emission whose minimum is `least`.
-fn check_tick(processes: &[u64], e: Emission, time: SimTime, least: SimTime) -> CheckResult
+fn check_tick(processes: &[u64], e: Emission, time: SimTime, least: SimTime) -> Result<(), Refusal>
     requires { (length processes.now ≡ 256) × (lp_id_of e.destination < 64) }
     ensures { ChecksRows (tick_rows (emission_of e) (ticks_of time) (ticks_of least) (tick_at processes.now (2 * lp_id_of e.destination))) result }
 {
@@ -42,21 +35,12 @@ fn check_tick(processes: &[u64], e: Emission, time: SimTime, least: SimTime) -> 
     let to = destination.to_word();
     let local = words::tick_in(processes, 2 * to as usize);
     if tick.lt(least) {
-        return CheckResult {
-            passed: false,
-            answer: Answer::OutboundLookaheadViolation(emitter, time, tick, least),
-        };
+        return Err(Refusal::OutboundLookaheadViolation(emitter, time, tick, least));
     }
     if tick.lt(local) {
-        return CheckResult {
-            passed: false,
-            answer: Answer::Straggler(destination, tick, local),
-        };
+        return Err(Refusal::Straggler(destination, tick, local));
     }
-    CheckResult {
-        passed: true,
-        answer: Answer::Accepted,
-    }
+    Ok(())
 }
 
 // "A route exists from a process to itself and along an edge": an edge's lookahead is above 0.
@@ -74,38 +58,25 @@ pub fn check_emission(
     processes: &[u64],
     e: Emission,
     time: SimTime,
-) -> CheckResult
+) -> Result<(), Refusal>
     requires { CanCheck head processes.now }
     ensures { ChecksEmission head (duration_of lookahead) processes.now e time result }
 {
     let emitter = e.emitter;
     let source = e.source;
     if !source.eq(emitter) {
-        return CheckResult {
-            passed: false,
-            answer: Answer::OutboundSourceMismatch(emitter, source),
-        };
+        return Err(Refusal::OutboundSourceMismatch(emitter, source));
     }
     let n = head.n as u64;
     let destination = e.destination;
     if n <= destination.to_word() {
-        return CheckResult {
-            passed: false,
-            answer: Answer::UnknownOutboundDestination(destination),
-        };
+        return Err(Refusal::UnknownOutboundDestination(destination));
     }
     if !has_route(e, lookahead) {
-        return CheckResult {
-            passed: false,
-            answer: Answer::OutboundRouteMissing(emitter, destination),
-        };
+        return Err(Refusal::OutboundRouteMissing(emitter, destination));
     }
-    let least = minimum_tick(e, time, lookahead);
-    match least {
-        Added::Sum(t) => check_tick(processes, e, time, t),
-        Added::Overflow => CheckResult {
-            passed: false,
-            answer: Answer::LookaheadOverflow(emitter, time, lookahead),
-        },
-    }
+    let Some(least) = minimum_tick(e, time, lookahead) else {
+        return Err(Refusal::LookaheadOverflow(emitter, time, lookahead));
+    };
+    check_tick(processes, e, time, least)
 }
