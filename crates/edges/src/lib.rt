@@ -21,12 +21,10 @@ pub fn has_route(edges: &[u64], count: usize, a: u64, b: u64) -> bool
     if a == b {
         return true;
     }
-    let mut i: usize = 0;
-    while i < count {
+    for i in 0..count {
         if is_edge(edges, i, a, b) {
             return true;
         }
-        i += 1;
     }
     false
 }
@@ -48,9 +46,7 @@ pub fn invalid_edges(edges: &[u64], count: usize, n: u64, made: &mut [u64]) -> b
 {
     let mut seen = [0u64; 64];
     inbound::reset(made, n as usize);
-    let mut i = count;
-    while 0 < i {
-        i -= 1;
+    for i in (0..count).rev() {
         if invalid_edge(edges, i, n, &mut seen) {
             return true;
         }
@@ -104,15 +100,14 @@ fn seen_or_mark(edges: &[u64], i: usize, seen: &mut [u64]) -> bool
 }
 
 // Edge i is put into the table.
+#[tactic(auto, using(crate::proofs::Marks::source_below, crate::proofs::Marks::destination_below))]
 fn mark_route(edges: &[u64], i: usize, routes: &mut [u64])
     requires { (6 * i + 6 ≤ length edges.now) × (length routes.old ≡ 64) × (unknown_id_edge 64 (edge_at edges.now i) ≡ false) }
     ensures { Marked (edge_at edges.now i) routes.old routes.new }
 {
     let from = edges[6 * i];
     let to = edges[6 * i + 1];
-    let at = from as usize;
-    let row = routes[at];
-    routes[at] = row | (1u64 << to);
+    routes[from as usize] |= 1u64 << to;
 }
 
 // Whether a route leads from a to b, by the table.

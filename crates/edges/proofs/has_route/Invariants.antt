@@ -1,4 +1,3 @@
-use Prim.Native.Nat.{◌-◌}
 use Rattle.rules.specs.Pending.{joins}
 use Rattle.records.specs.Records.{edge_at}
 use Rattle.records.proofs.Passes.{Seeking}
@@ -6,6 +5,3 @@ use Rattle.edges.proofs.has_route.Given as goal
 
 abbrev pub invariant-loop-i : goal.invariant-loop-i
 invariant-loop-i l = Seeking (joins l.a l.b) (edge_at l.edges) l.count l.i
-
-abbrev pub decreases-loop-i : goal.decreases-loop-i
-decreases-loop-i l = l.count - l.i
