@@ -4,47 +4,33 @@
 
 #![tactic(auto)]
 
-use text_input::{Next, STDIN_FILENO};
+use text_input::STDIN_FILENO;
 
 const PLAN: u64 = 8;
 
-fn execute_call(tag: u64) -> bool {
+fn execute_call(tag: u64) -> Option<()> {
     if tag == PLAN {
         return partition_text::execute_plan();
     }
     skip_calls::skip_call(tag)
 }
 
-// The next call; whether it could be decoded.
-fn execute_next() -> bool {
-    match text_input::read_word(STDIN_FILENO) {
-        Next::Word(tag) => execute_call(tag),
-        Next::End => false,
+// A build, a number of calls, and the calls, where all could be decoded.
+fn execute_list() -> Option<()> {
+    skip_calls::skip_build()?;
+    let count = text_input::read_word(STDIN_FILENO)?;
+    for _ in 0..count {
+        let tag = text_input::read_word(STDIN_FILENO)?;
+        execute_call(tag)?;
     }
+    Some(())
 }
 
-// A build, a number of calls, and the calls; whether all could be decoded.
-fn execute_list() -> bool {
-    if !skip_calls::skip_build() {
-        return false;
-    }
-    let Next::Word(count) = text_input::read_word(STDIN_FILENO) else {
-        return false;
-    };
-    let mut left = count;
-    while 0 < left {
-        if !execute_next() {
-            return false;
-        }
-        left -= 1;
-    }
-    true
-}
-
-// Nothing says that an input ends, so the lists are counted down from a number that none has.
+// Nothing says that an input ends, so the lists are counted up to a number that none has.
 fn main() {
-    let mut left = u64::MAX;
-    while 0 < left && execute_list() {
-        left -= 1;
+    for _ in 0..u64::MAX {
+        if execute_list().is_none() {
+            return;
+        }
     }
 }

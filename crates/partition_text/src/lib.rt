@@ -6,9 +6,9 @@ ghost use Rattle.std.specs.Prelude.{◌≡◌, ◌≤◌};
 ghost use Rattle.partition.specs.PlanNumbers.{number_of, values_of};
 ghost use Rattle.partition_text.specs.Values.{list_of};
 
-use partition::PlanAnswer;
+use partition::PlanRefusal;
 use text_input::STDIN_FILENO;
-use text_output::ROOM;
+use text_output::Gathered;
 use types::SimDuration;
 
 // A plan of more entities or more places is taken for something that cannot be decoded.
@@ -17,16 +17,16 @@ const MAX_ITEMS: u64 = 4096;
 const MAX_WORDS: usize = 8192;
 
 // Document 01's number of an answer.
-fn number_of(answer: PlanAnswer) -> u64
+fn number_of(answer: Result<u64, PlanRefusal>) -> u64
     ensures { result ≡ number_of answer }
 {
     match answer {
-        PlanAnswer::Planned(_) => 0,
-        PlanAnswer::InvalidPartitionCount(_) => 1,
-        PlanAnswer::InvalidLookahead => 2,
-        PlanAnswer::EmptyPartitionEntities => 34,
-        PlanAnswer::DuplicatePartitionEntity(_, _) => 35,
-        PlanAnswer::TooManyEntities => 36,
+        Ok(_) => 0,
+        Err(PlanRefusal::InvalidPartitionCount(_)) => 1,
+        Err(PlanRefusal::InvalidLookahead) => 2,
+        Err(PlanRefusal::EmptyPartitionEntities) => 34,
+        Err(PlanRefusal::DuplicatePartitionEntity(_, _)) => 35,
+        Err(PlanRefusal::TooManyEntities) => 36,
     }
 }
 
@@ -38,92 +38,83 @@ enum PlanValues {
     Entity(u64, u64),
 }
 
-fn values_of(answer: PlanAnswer) -> PlanValues
+fn values_of(answer: Result<u64, PlanRefusal>) -> PlanValues
     ensures { list_of result ≡ values_of answer }
 {
     match answer {
-        PlanAnswer::Planned(count) => PlanValues::Count(count),
-        PlanAnswer::InvalidPartitionCount(count) => PlanValues::Count(count),
-        PlanAnswer::InvalidLookahead => PlanValues::Nothing,
-        PlanAnswer::EmptyPartitionEntities => PlanValues::Nothing,
-        PlanAnswer::DuplicatePartitionEntity(index, generation) => PlanValues::Entity(
+        Ok(count) => PlanValues::Count(count),
+        Err(PlanRefusal::InvalidPartitionCount(count)) => PlanValues::Count(count),
+        Err(PlanRefusal::InvalidLookahead) => PlanValues::Nothing,
+        Err(PlanRefusal::EmptyPartitionEntities) => PlanValues::Nothing,
+        Err(PlanRefusal::DuplicatePartitionEntity(index, generation)) => PlanValues::Entity(
             index, generation,
         ),
-        PlanAnswer::TooManyEntities => PlanValues::Nothing,
+        Err(PlanRefusal::TooManyEntities) => PlanValues::Nothing,
     }
 }
 
-fn put_number(out: &mut [u8; ROOM], number: u64) -> usize {
+fn put_number(out: &mut Gathered, number: u64) {
     if number == 0 {
-        return text_output::put(out, 0, b"planned");
+        out.put(b"planned");
+        return;
     }
-    let end = text_output::put(out, 0, b"refused");
-    text_output::put_next(out, end, b' ', number)
+    out.put(b"refused");
+    out.put_next(b' ', number);
 }
 
-fn put_entity(
-    out: &mut [u8; ROOM],
-    at: usize,
-    separator: u8,
-    index: u64,
-    generation: u64,
-) -> usize {
-    let end = text_output::put_next(out, at, b' ', index);
-    text_output::put_next(out, end, separator, generation)
+fn put_entity(out: &mut Gathered, separator: u8, index: u64, generation: u64) {
+    out.put_next(b' ', index);
+    out.put_next(separator, generation);
 }
 
-fn put_values(out: &mut [u8; ROOM], at: usize, values: PlanValues) -> usize {
+fn put_values(out: &mut Gathered, values: PlanValues) {
     match values {
-        PlanValues::Nothing => at,
-        PlanValues::Count(count) => text_output::put_next(out, at, b' ', count),
-        PlanValues::Entity(index, generation) => put_entity(out, at, b' ', index, generation),
+        PlanValues::Nothing => {}
+        PlanValues::Count(count) => out.put_next(b' ', count),
+        PlanValues::Entity(index, generation) => put_entity(out, b' ', index, generation),
     }
 }
 
-fn put_answer(out: &mut [u8; ROOM], answer: PlanAnswer) -> usize {
-    let end = put_number(out, number_of(answer));
-    put_values(out, end, values_of(answer))
+fn put_answer(out: &mut Gathered, answer: Result<u64, PlanRefusal>) {
+    put_number(out, number_of(answer));
+    put_values(out, values_of(answer));
 }
 
-// The bar behind the answer. A list of no places leaves its space.
-fn put_bar(out: &mut [u8; ROOM], at: usize, places: usize) -> usize {
-    let end = text_output::put(out, at, b" |");
-    if places == 0 {
-        return text_output::put_byte(out, end, b' ');
+// The entities of the lent list behind a bar, each behind a space. A list of no places leaves its
+// space.
+fn put_list(out: &mut Gathered, lent: &[u64]) {
+    out.put(b" |");
+    if lent.len() < 2 {
+        out.put_byte(b' ');
     }
-    end
-}
-
-// The entities of the lent list, each behind a space.
-fn put_list(out: &mut [u8; ROOM], at: usize, lent: &[u64]) -> usize {
-    let count = lent.len() / 2;
-    let mut end = put_bar(out, at, count);
-    let mut k: usize = 0;
-    while k < count {
-        end = put_entity(out, end, b':', lent[k * 2], lent[k * 2 + 1]);
-        k += 1;
+    for pair in lent.chunks_exact(2) {
+        put_entity(out, b':', pair[0], pair[1]);
     }
-    end
 }
 
-fn print_line(answer: PlanAnswer, lent: &[u64]) {
-    let mut out = io::buffer();
-    let mut end = put_answer(&mut out, answer);
-    end = put_list(&mut out, end, lent);
-    text_output::end_line(&mut out, end);
+fn print_line(answer: Result<u64, PlanRefusal>, lent: &[u64]) {
+    let mut out = Gathered::new();
+    put_answer(&mut out, answer);
+    put_list(&mut out, lent);
+    out.end_line();
 }
 
-// Reads the entities, plans, and prints the line. False where the input breaks off.
-fn execute(count: u64, lookahead: SimDuration, given: &mut [u64], lent: &mut [u64]) -> bool {
+// Reads the entities, plans, and prints the line. None where the input breaks off.
+fn execute(count: u64, lookahead: SimDuration, given: &mut [u64], lent: &mut [u64]) -> Option<()> {
     if text_input::read_words(STDIN_FILENO, given) < given.len() {
-        return false;
+        return None;
     }
     print_line(partition::plan(count, lookahead, given, lent), lent);
-    true
+    Some(())
 }
 
 // The same, with room for the entities and for the lent list. Its places hold 0:0.
-fn execute_in_buffers(count: u64, lookahead: SimDuration, places: usize, entities: usize) -> bool
+fn execute_in_buffers(
+    count: u64,
+    lookahead: SimDuration,
+    places: usize,
+    entities: usize,
+) -> Option<()>
     requires { (places ≤ 4096) × (entities ≤ 4096) }
 {
     let mut given = [0u64; MAX_WORDS];
@@ -138,20 +129,16 @@ fn execute_in_buffers(count: u64, lookahead: SimDuration, places: usize, entitie
     )
 }
 
-// Whether the plan could be decoded.
-pub fn execute_plan() -> bool {
+// The next plan, where it could be decoded.
+pub fn execute_plan() -> Option<()> {
     let mut head = [0u64; 5];
     if text_input::read_words(STDIN_FILENO, &mut head) < 5 {
-        return false;
+        return None;
     }
-    let places = head[3];
-    let entities = head[4];
-    if MAX_ITEMS < places {
-        return false;
+    let [count, hi, lo, places, entities] = head;
+    if MAX_ITEMS < places || MAX_ITEMS < entities {
+        return None;
     }
-    if MAX_ITEMS < entities {
-        return false;
-    }
-    let lookahead = SimDuration::from_ticks(head[1], head[2]);
-    execute_in_buffers(head[0], lookahead, places as usize, entities as usize)
+    let lookahead = SimDuration::from_ticks(hi, lo);
+    execute_in_buffers(count, lookahead, places as usize, entities as usize)
 }
