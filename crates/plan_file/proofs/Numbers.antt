@@ -17,9 +17,12 @@ use Rattle.plan_file.specs.Format.{Got, Got.short, Got.got}
 use Rattle.plan_file.specs.Plan.{Plan}
 use Rattle.plan_file.specs.Grammar.{plan}
 use Rattle.plan_file.specs.File.{Answer, Answer.refused, Answer.contents, decode, ended, number_of}
-use Rattle.plan_file.specs.Checks.{nothing_beside, Checks}
+use Rattle.plan_file.specs.Checks.{refusal_number, Checks}
 use Rattle.plan_file.specs.Walked.{rest, WalkedPlan}
 use Rattle.plan_file.specs.declared.Parts.{Parts}
+use Rattle.plan_file.specs.declared.FileRefusal.{FileRefusal}
+use Rattle.plan_file.specs.declared.FileRefusal.TheVariants.{Malformed, TooLong}
+use Rattle.std.proofs.Common.{Ok, Err}
 
 -- A file that is let pass: its contents were read, and what is left of it are fewer than eight zero bits.
 pub record Decoded (s : List ℕ) (p : Plan) : Type 0 where
@@ -108,27 +111,31 @@ refused_of s = by_answer (decode s) refl
     by_answer (contents p) e h = absurd (h refl)
     by_answer (refused k) e h = refl
 
--- Beside a number there is nothing.
-refused_checks : (s : List ℕ) (r : Parts) (k : ℕ) → 0 < k → r ≡ nothing_beside k → number_of (decode s) ≡ k → Checks s r
-refused_checks s r k h e d = record {
-  number = ap (λ (p : Parts). p.number) e ∙ sym d;
-  refuses = λ j q. let z : k ≡ j = sym d ∙ ap number_of q in e ∙ ap nothing_beside z;
-  parts = λ p q. let z : k ≡ 0 = sym d ∙ ap number_of q in absurd (omega arith);
+-- A number that refuses.
+positive : (e : FileRefusal) → 0 < refusal_number e
+positive Malformed = omega arith
+positive TooLong = omega arith
+
+refused_checks : (s : List ℕ) (e : FileRefusal) → number_of (decode s) ≡ refusal_number e → Checks s (Err e)
+refused_checks s e d = record {
+  number = sym d;
+  refuses = λ j q. sym d ∙ ap number_of q;
+  parts = λ p q. let z : refusal_number e ≡ 0 = sym d ∙ ap number_of q in absurd (omega (arith, positive e));
 }
 
-module _ (s : List ℕ) (r : Parts) where
-  pub too_long : 16384 < length s → r ≡ nothing_beside 38 → Checks s r
+module _ (s : List ℕ) where
+  pub too_long : 16384 < length s → Checks s (Err TooLong)
   unfolding decode if◌then◌otherwise◌
-  too_long h e = refused_checks s r 38 (omega arith) e (rw (lt-ltb 16384 (length s) h))
+  too_long h = refused_checks s TooLong (rw (lt-ltb 16384 (length s) h))
 
   module _ (h : length s ≤ 16384) where
     number_is : number_of (decode s) ≡ left_number (rest (plan.get (stream s)))
     unfolding decode if◌then◌otherwise◌
     number_is = rw (le-ltb 16384 (length s) h) (number_left (plan.get (stream s)))
 
-    pub too_short : rest (plan.get (stream s)) ≡ short → r ≡ nothing_beside 37 → Checks s r
+    pub too_short : rest (plan.get (stream s)) ≡ short → Checks s (Err Malformed)
     unfolding left_number
-    too_short w e = refused_checks s r 37 (omega arith) e (number_is ∙ rw w)
+    too_short w = refused_checks s Malformed (number_is ∙ rw w)
 
     module _ {parts : Parts} {end : ℕ} (w : WalkedPlan (stream s) parts end) where
       abbrev left : List Bool
@@ -140,9 +147,9 @@ module _ (s : List ℕ) (r : Parts) where
       number_at : number_of (decode s) ≡ left_number (got tt left)
       number_at = number_is ∙ ap left_number w.ends
 
-      pub left_over : 8 ≤ length s * 8 - end → r ≡ nothing_beside 37 → Checks s r
+      pub left_over : 8 ≤ length s * 8 - end → Checks s (Err Malformed)
       unfolding left_number if◌then◌otherwise◌
-      left_over l e = let m : 8 ≤ length left = rw left-length l in refused_checks s r 37 (omega arith) e (number_at ∙ rw (le-ltb (length left) 8 m))
+      left_over l = let m : 8 ≤ length left = rw left-length l in refused_checks s Malformed (number_at ∙ rw (le-ltb (length left) 8 m))
 
       module _ (l : length s * 8 - end < 8) (v : ℕ) (q : v ≡ value_of (take (length s * 8 - end) left)) where
         value-is : v ≡ value_of left
@@ -151,17 +158,17 @@ module _ (s : List ℕ) (r : Parts) where
         left_lt : length left < 8
         left_lt = rw left-length l
 
-        pub set_padding : (v ≡ 0 → ⊥) → r ≡ nothing_beside 37 → Checks s r
+        pub set_padding : (v ≡ 0 → ⊥) → Checks s (Err Malformed)
         unfolding left_number if◌then◌otherwise◌
-        set_padding z e = refused_checks s r 37 (omega arith) e (number_at ∙ rw (lt-ltb (length left) 8 left_lt, ne_eqb (value_of left) 0 (λ o. z (value-is ∙ o))))
+        set_padding z = refused_checks s Malformed (number_at ∙ rw (lt-ltb (length left) 8 left_lt, ne_eqb (value_of left) 0 (λ o. z (value-is ∙ o))))
 
         number-zero : v ≡ 0 → number_of (decode s) ≡ 0
         unfolding left_number if◌then◌otherwise◌
         number-zero z = number_at ∙ rw (lt-ltb (length left) 8 left_lt, eq-eqb (value_of left) 0 (sym value-is ∙ z))
 
-        pub passes : v ≡ 0 → Checks s parts
+        pub passes : v ≡ 0 → Checks s (Ok parts)
         passes z = record {
-          number = w.number ∙ sym (number-zero z);
+          number = sym (number-zero z);
           refuses = λ k e. let h = refusal_number_holds s k e in let q : k ≡ 0 = ap number_of (sym e) ∙ number-zero z in ⊎_elim (λ (x : k ≡ 37). absurd (omega arith)) (λ (x : k ≡ 38). absurd (omega arith)) h;
           parts = λ p e. w.lists p _ (decoded s p e).reads;
         }

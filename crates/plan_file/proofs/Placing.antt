@@ -4,6 +4,7 @@ use mathlib.Core.Path.{◌≡◌, refl, sym, ap, ◌∙◌}
 use mathlib.Core.Bool.{Bool}
 use mathlib.Core.List.{List}
 use native.Mathlib.Omega.{arith}
+use Rattle.std.proofs.Common.{Option, Some, None}
 use lib.ListN.{length, take, drop}
 use Rattle.bits.specs.Bits.{value_of}
 use Rattle.plan_file.specs.Format.{Got.short, Got.got, next, Format, field, pair, counted, gets}
@@ -13,11 +14,9 @@ use Rattle.plan_file.specs.Standing.{Standing}
 use Rattle.plan_file.specs.Checks.{PartsOf}
 use Rattle.plan_file.specs.Walked.{rest, CountedList, Counts, WalkedPlan, Walks}
 use Rattle.plan_file.specs.declared.Parts.{Parts}
-use Rattle.plan_file.specs.declared.Counted.{Counted}
-use Rattle.plan_file.specs.declared.Counted.TheVariants.{Listed, Cut}
-use Rattle.plan_file.specs.declared.Lists.{Lists}
-use Rattle.plan_file.specs.declared.Lists.TheVariants.{Whole, Ends}
-use Rattle.plan_file.proofs.Walk.{onward, skip_some, skip_short, rest_counted}
+use Rattle.plan_file.specs.declared.Listed.{Listed}
+use Rattle.plan_file.proofs.Walk.{skip_some, skip_short, rest_counted}
+use Rattle.plan_file.specs.Onward.{onward}
 use Rattle.plan_file.proofs.Rests.{lists_of_rest, rest_plan}
 use Rattle.plan_file.proofs.Reading.{head_parts, pair_parts, seen_parts, gets_length}
 
@@ -57,38 +56,38 @@ plan_parts b p r e =
     }
 
 -- A counted list that stands where its count was found.
-module _ {A : Type 0} {f : Format A} {b : List Bool} {at n first behind : ℕ} (c : CountedList f b at n first behind) where
-  pub counted_rest : rest ((counted 10 f).get (drop at b)) ≡ got tt (drop behind b)
+module _ {A : Type 0} (f : Format A) {b : List Bool} {at : ℕ} {l : Listed} (c : CountedList f b at l) where
+  pub counted_rest : rest ((counted 10 f).get (drop at b)) ≡ got tt (drop l.next b)
   unfolding next
   counted_rest = rest_counted 10 f (drop at b) ∙ rw c.count c.ends
 
   module _ {x : List Bool} {xs : List A} {t : List Bool} (d : drop at b ≡ x) (e : (counted 10 f).get x ≡ got xs t) where
-    list_is : gets f n (drop first b) ≡ got xs t
+    list_is : gets f l.count (drop l.first b) ≡ got xs t
     unfolding counted next
     list_is = let h : next ((field 10).get (drop at b)) (gets f) ≡ got xs t = rw d e in rw c.count at h
 
-    pub count_is : n ≡ length xs
-    count_is = sym (gets_length f n (drop first b) xs t list_is)
+    pub count_is : l.count ≡ length xs
+    count_is = sym (gets_length f l.count (drop l.first b) xs t list_is)
 
-    pub stands : Standing f b first xs
+    pub stands : Standing f b l.first xs
     stands = record { behind = t; reads = rw count_is at list_is; inside = c.first_inside }
 
-    pub behind_is : drop behind b ≡ t
+    pub behind_is : drop l.next b ≡ t
     unfolding rest
-    behind_is = let g : got tt (drop behind b) ≡ rest (got xs t) = sym c.ends ∙ ap rest list_is in cc
+    behind_is = let g : got tt (drop l.next b) ≡ rest (got xs t) = sym c.ends ∙ ap rest list_is in cc
 
 -- What a walk's answer says, by its case.
-module _ {A : Type 0} (f : Format A) (b : List Bool) (at : ℕ) (r : Counted) (c : Counts f b at r) where
-  pub listed : (n first behind : ℕ) → r ≡ Listed n first behind → CountedList f b at n first behind
-  listed n first behind e = rw e at c
+module _ {A : Type 0} (f : Format A) (b : List Bool) (at : ℕ) (r : Option Listed) (c : Counts f b at r) where
+  pub listed : (l : Listed) → r ≡ Some l → CountedList f b at l
+  listed l e = rw e at c
 
-  pub cut : r ≡ Cut → rest ((counted 10 f).get (drop at b)) ≡ short
-  cut e = rw e at c
+  pub cut : r ≡ None → rest ((counted 10 f).get (drop at b)) ≡ short
+  cut e = rest_counted 10 f (drop at b) ∙ rw e at c
 
-pub whole_of : (b : List Bool) (r : Lists) → Walks b r → (parts : Parts) (end : ℕ) → r ≡ Whole parts end → WalkedPlan b parts end
-whole_of b r w parts end e = rw e at w
+pub whole_of : (b : List Bool) (r : Option (Parts × ℕ)) → Walks b r → (p : Parts × ℕ) → r ≡ Some p → WalkedPlan b p.0 p.1
+whole_of b r w p e = rw e at w
 
-pub ends_of : (b : List Bool) (r : Lists) → Walks b r → r ≡ Ends → rest (plan.get b) ≡ short
+pub ends_of : (b : List Bool) (r : Option (Parts × ℕ)) → Walks b r → r ≡ None → rest (plan.get b) ≡ short
 ends_of b r w e = rw e at w
 
 module _ (b : List Bool) where
@@ -105,39 +104,38 @@ module _ (b : List Bool) where
     unfolding onward
     edges_cut e = lists_at ∙ rw e
 
-    module _ {n first p : ℕ} (es : CountedList edge b 327 n first p) where
-      pub initial_cut : rest ((counted 10 message).get (drop p b)) ≡ short → rest (plan.get b) ≡ short
+    module _ {e : Listed} (es : CountedList edge b 327 e) where
+      pub initial_cut : rest ((counted 10 message).get (drop e.next b)) ≡ short → rest (plan.get b) ≡ short
       unfolding onward
-      initial_cut e = lists_at ∙ rw (counted_rest es, e)
+      initial_cut s = lists_at ∙ rw (counted_rest edge es, s)
 
-      module _ {k start q : ℕ} (is : CountedList message b p k start q) where
-        pub replies_cut : rest ((counted 10 reply).get (drop q b)) ≡ short → rest (plan.get b) ≡ short
+      module _ {i : Listed} (is : CountedList message b e.next i) where
+        pub replies_cut : rest ((counted 10 reply).get (drop i.next b)) ≡ short → rest (plan.get b) ≡ short
         unfolding onward
-        replies_cut e = lists_at ∙ rw (counted_rest es, counted_rest is, e)
+        replies_cut s = lists_at ∙ rw (counted_rest edge es, counted_rest message is, s)
 
-        module _ {m from end : ℕ} (rs : CountedList reply b q m from end) where
+        module _ {j : Listed} (rs : CountedList reply b i.next j) where
           abbrev found : Parts
-          found = record { number = 0; edges = n; initial = k; initial_at = start; replies = m; replies_at = from }
+          found = record { edges = e.count; initial = i.count; initial_at = i.first; replies = j.count; replies_at = j.first }
 
           lists_of : (p : Plan) (r : List Bool) → plan.get b ≡ got p r → PartsOf b p found
-          lists_of p r e =
-              let g = plan_parts b p r e in
-              let ib = behind_is es refl g.edges in
-              let rb = behind_is is ib g.initial in
+          lists_of p r q =
+              let g = plan_parts b p r q in
+              let ib = behind_is edge es refl g.edges in
+              let rb = behind_is message is ib g.initial in
               record {
-                edges = count_is es refl g.edges;
-                initial = count_is is ib g.initial;
-                replies = count_is rs rb g.replies;
-                edges_stand = rw es.starts at (stands es refl g.edges);
-                initial_stand = stands is ib g.initial;
-                replies_stand = stands rs rb g.replies;
+                edges = count_is edge es refl g.edges;
+                initial = count_is message is ib g.initial;
+                replies = count_is reply rs rb g.replies;
+                edges_stand = rw es.starts at (stands edge es refl g.edges);
+                initial_stand = stands message is ib g.initial;
+                replies_stand = stands reply rs rb g.replies;
               }
 
-          pub whole : WalkedPlan b found end
+          pub whole : WalkedPlan b found j.next
           unfolding onward
           whole = record {
-            ends = lists_at ∙ rw (counted_rest es, counted_rest is) (counted_rest rs);
+            ends = lists_at ∙ rw (counted_rest edge es, counted_rest message is) (counted_rest reply rs);
             inside = rs.inside;
-            number = refl;
             lists = lists_of;
           }

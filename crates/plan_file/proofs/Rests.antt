@@ -6,7 +6,8 @@ use mathlib.Core.List.{List}
 use Rattle.plan_file.specs.Format.{Got, next, Format, field, pair, counted, gets}
 use Rattle.plan_file.specs.Grammar.{edge, message, reply, plan}
 use Rattle.plan_file.specs.Walked.{rest, skipped}
-use Rattle.plan_file.proofs.Walk.{onward, Fixed, onward_same, fixed_field, fixed_pair, fixed_gets, rest_seen, rest_pair, rest_fixed, rest_counted, rest_run, skip_skip}
+use Rattle.plan_file.proofs.Walk.{Fixed, onward_same, fixed_field, fixed_pair, fixed_gets, rest_seen, rest_pair, rest_fixed, rest_counted, rest_run, skip_skip}
+use Rattle.plan_file.specs.Onward.{onward}
 
 -- A field in front of something that begins with w bits to pass over.
 pub one_more : {A : Type 0} (v w : ℕ) (g : Format A) (j : List Bool → Got (Unit {0})) → ((b : List Bool) → rest (g.get b) ≡ onward (skipped w b) j)
@@ -27,7 +28,7 @@ rest_reply b =
     ∙ rest_fixed (field 6) (counted 10 message) 6 (fixed_field 6) b
     ∙ onward_same (skipped 6 b) _ _ (rest_counted 10 message)
 
-fixed_edge : Fixed 140 edge
+pub fixed_edge : Fixed 140 edge
 unfolding edge
 fixed_edge b =
     rest_seen _ _ _ _ _ b

@@ -2,7 +2,7 @@
 use Prim.Native.Nat.{ℕ, zero, suc, ◌+◌, ◌*◌, ◌<◌, ◌≤◌}
 use mathlib.Core.Path.{◌≡◌, refl, sym, ap, ◌∙◌}
 use mathlib.Core.Bool.{Bool, true, false}
-use mathlib.Core.List.{List, ◌∷◌}
+use mathlib.Core.List.{List}
 use native.Mathlib.Omega.{arith}
 use lib.Dec.{leb}
 use lib.ListN.{length, take, drop, length-drop}
@@ -11,23 +11,7 @@ use lib.Seq.{drop-drop}
 use borrow.Author.Tests.{leb-true, leb-false, le-leb, lt-leb}
 use Rattle.plan_file.specs.Format.{Got, Got.short, Got.got, next, Format, field, get_field, pair, counted, seen, gets}
 use Rattle.plan_file.specs.Walked.{rest, skipped}
-
--- What follows goes on behind what was read.
-unfoldable pub onward : {A : Type 0} → Got A → (List Bool → Got (Unit {0})) → Got (Unit {0})
-onward short k = short
-onward (got a r) k = k r
-
--- The rest of a reading in two steps, where the second goes on in the same way after every value.
-pub rest_next : {A B : Type 0} (x : Got A) (k : A → List Bool → Got B) (j : List Bool → Got (Unit {0}))
-    → ((a : A) (r : List Bool) → rest (k a r) ≡ j r) → rest (next x k) ≡ onward (rest x) j
-unfolding rest next onward
-rest_next short k j h = refl
-rest_next (got a r) k j h = h a r
-
-pub rest_same : {A B : Type 0} (x : Got A) (k : A → B) → rest (next x (λ a r. got (k a) r)) ≡ rest x
-unfolding rest next
-rest_same short k = refl
-rest_same (got a r) k = refl
+use Rattle.plan_file.specs.Onward.{onward, rest_next, rest_same, rest_gets}
 
 pub rest_pair : {A B : Type 0} (f : Format A) (g : Format B) (b : List Bool) → rest ((pair f g).get b) ≡ onward (rest (f.get b)) (λ r. rest (g.get r))
 unfolding pair
@@ -37,10 +21,6 @@ pub rest_seen : {A B : Type 0} (f : Format A) (to : A → B) (from : B → A) (p
     → rest ((seen f to from p q).get b) ≡ rest (f.get b)
 unfolding seen
 rest_seen f to from p q b = rest_same (f.get b) to
-
-pub rest_gets : {A : Type 0} (f : Format A) (n : ℕ) (b : List Bool) → rest (gets f (suc n) b) ≡ onward (rest (f.get b)) (λ r. rest (gets f n r))
-unfolding gets
-rest_gets f n b = rest_next (f.get b) _ _ (λ a r. rest_same (gets f n r) (λ xs. a ∷ xs))
 
 pub skip_some : (w : ℕ) (b : List Bool) → w ≤ length b → skipped w b ≡ got tt (drop w b)
 unfolding skipped rest field get_field

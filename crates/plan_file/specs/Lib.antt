@@ -15,3 +15,4 @@ pub mod Checks
 pub mod Like
 -- What the functions below the check say to each other.
 pub mod Walked
+pub mod Onward

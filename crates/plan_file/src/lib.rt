@@ -6,18 +6,18 @@
 
 #![tactic(auto)]
 
-ghost use Rattle.std.specs.Prelude.{◌≡◌, ◌+◌, ◌*◌, ◌<◌, ◌≤◌, length, drop};
+ghost use Rattle.std.specs.Prelude.{◌≡◌, ◌+◌, ◌*◌, ◌<◌, ◌≤◌, ℕ, suc, Bool, List, length, drop};
 ghost use Rattle.bits.specs.Bytes.{stream};
-ghost use Rattle.plan_file.specs.Format.{gets};
+ghost use Rattle.plan_file.specs.Format.{Got, Got.got, gets};
 ghost use Rattle.plan_file.specs.Grammar.{edge, message, reply};
-ghost use Rattle.plan_file.specs.Checks.{nothing_beside, Checks};
-ghost use Rattle.plan_file.specs.Walked.{rest, skipped, Walked, Counts, Walks};
+ghost use Rattle.plan_file.specs.Checks.{refusal_number, Checks};
+ghost use Rattle.plan_file.specs.Walked.{rest, skipped, Walked, CountsBy, Walks};
+ghost use Rattle.plan_file.specs.Onward.{onward, rest_none, rest_gets};
 
-// 38, 37 or 0; how many edges, initial events and replies there are; and where the first initial event
-// and the first reply stand. The edges stand at 337. Beside 37 and 38 all is 0.
+// How many edges, initial events and replies there are; and where the first initial event and the first
+// reply stand. The edges stand at 337.
 #[derive(Clone, Copy)]
 pub struct Parts {
-    pub number: u64,
     pub edges: usize,
     pub initial: usize,
     pub initial_at: usize,
@@ -25,199 +25,203 @@ pub struct Parts {
     pub replies_at: usize,
 }
 
-// A place in the file, or its end came too soon.
+// Why a file is no plan: 37 and 38.
 #[derive(Clone, Copy)]
-pub enum Place {
-    At(usize),
-    Short,
+pub enum FileRefusal {
+    Malformed,
+    TooLong,
+}
+
+// The number that tells of it.
+impl From<FileRefusal> for u64 {
+    ghost from_gives = { λ refusal number. number ≡ refusal_number refusal };
+
+    fn from(refusal: FileRefusal) -> u64 {
+        match refusal {
+            FileRefusal::Malformed => 37,
+            FileRefusal::TooLong => 38,
+        }
+    }
 }
 
 // A list's count, the place of its first record and the place behind it.
 #[derive(Clone, Copy)]
-pub enum Counted {
-    Listed(usize, usize, usize),
-    Cut,
+pub struct Listed {
+    pub count: usize,
+    pub first: usize,
+    pub next: usize,
 }
 
-// The parts of a file that is not too short, and the place behind its contents.
-#[derive(Clone, Copy)]
-pub enum Lists {
-    Whole(Parts, usize),
-    Ends,
-}
-
-// w bits are passed over.
-pub fn skip(s: &[u8], at: usize, w: usize) -> Place
+// w bits are passed over; None where the file ends too soon.
+pub fn skip(s: &[u8], at: usize, w: usize) -> Option<usize>
     requires { (length s.now ≤ 16384) × (at ≤ length s.now * 8) }
     ensures { Walked (stream s.now) (skipped w (drop at (stream s.now))) result }
 {
     if s.len() * 8 - at < w {
-        return Place::Short;
+        return None;
     }
-    Place::At(at + w)
+    Some(at + w)
+}
+
+// A kind of record that a file lists, by how it is passed over.
+pub trait Record {
+    // Where one of them ends, and where so many of them do.
+    ghost ends: { List Bool → Got (Unit {0}) };
+
+    ghost all_end: { ℕ → List Bool → Got (Unit {0}) };
+
+    fn skip_one(s: &[u8], at: usize) -> Option<usize>
+        requires { (length s.now ≤ 16384) × (at ≤ length s.now * 8) }
+        ensures { Walked (stream s.now) (ends (drop at (stream s.now))) result };
+
+    fn skip_all(s: &[u8], at: usize, n: usize) -> Option<usize>
+        requires { (length s.now ≤ 16384) × (at ≤ length s.now * 8) }
+        ensures { Walked (stream s.now) (all_end n (drop at (stream s.now))) result }
+    {
+        let mut p = at;
+        for _ in 0..n {
+            p = Self::skip_one(s, p)?;
+        }
+        Some(p)
+    }
+
+    ghost none_end: { (b : List Bool) → all_end 0 b ≡ got tt b };
+
+    ghost more_end: { (n : ℕ) (b : List Bool) → all_end (suc n) b ≡ onward (ends b) (all_end n) };
+}
+
+// An edge: 140 bits.
+pub struct EdgeList;
+
+impl Record for EdgeList {
+    ghost ends = { λ b. rest (edge.get b) };
+
+    ghost all_end = { λ n b. rest (gets edge n b) };
+
+    ghost none_end = { rest_none edge };
+
+    ghost more_end = { rest_gets edge };
+
+    fn skip_one(s: &[u8], at: usize) -> Option<usize> {
+        skip(s, at, 140)
+    }
+
+    // All at once.
+    fn skip_all(s: &[u8], at: usize, n: usize) -> Option<usize> {
+        skip(s, at, n.saturating_mul(140))
+    }
 }
 
 // An event: source, destination and tick have 140 bits, its payload's length five.
-pub fn skip_message(s: &[u8], at: usize) -> Place
+pub struct MessageList;
+
+impl Record for MessageList {
+    ghost ends = { λ b. rest (message.get b) };
+
+    ghost all_end = { λ n b. rest (gets message n b) };
+
+    ghost none_end = { rest_none message };
+
+    ghost more_end = { rest_gets message };
+
+    fn skip_one(s: &[u8], at: usize) -> Option<usize> {
+        skip_message(s, at)
+    }
+}
+
+// A reply: its process has six bits, the count of its emissions ten.
+pub struct ReplyList;
+
+impl Record for ReplyList {
+    ghost ends = { λ b. rest (reply.get b) };
+
+    ghost all_end = { λ n b. rest (gets reply n b) };
+
+    ghost none_end = { rest_none reply };
+
+    ghost more_end = { rest_gets reply };
+
+    fn skip_one(s: &[u8], at: usize) -> Option<usize> {
+        skip_reply(s, at)
+    }
+}
+
+// An event is passed over.
+pub fn skip_message(s: &[u8], at: usize) -> Option<usize>
     requires { (length s.now ≤ 16384) × (at ≤ length s.now * 8) }
     ensures { Walked (stream s.now) (rest (message.get (drop at (stream s.now)))) result }
 {
     if s.len() * 8 - at < 145 {
-        return Place::Short;
+        return None;
     }
     let bytes = bits::read(s, at + 140, 5) as usize;
     skip(s, at + 145, bytes * 8)
 }
 
-// n events.
-pub fn skip_messages(s: &[u8], at: usize, n: usize) -> Place
-    requires { (length s.now ≤ 16384) × (at ≤ length s.now * 8) }
-    ensures { Walked (stream s.now) (rest (gets message n (drop at (stream s.now)))) result }
-{
-    let mut p = at;
-    let mut left = n;
-    while 0 < left {
-        let Place::At(q) = skip_message(s, p) else {
-            return Place::Short;
-        };
-        p = q;
-        left -= 1;
-    }
-    Place::At(p)
-}
-
-// A reply: its process has six bits, the count of its emissions ten.
-pub fn skip_reply(s: &[u8], at: usize) -> Place
+// A reply is passed over.
+pub fn skip_reply(s: &[u8], at: usize) -> Option<usize>
     requires { (length s.now ≤ 16384) × (at ≤ length s.now * 8) }
     ensures { Walked (stream s.now) (rest (reply.get (drop at (stream s.now)))) result }
 {
     if s.len() * 8 - at < 16 {
-        return Place::Short;
+        return None;
     }
     let n = bits::read(s, at + 6, 10) as usize;
-    skip_messages(s, at + 16, n)
+    MessageList::skip_all(s, at + 16, n)
 }
 
-// n replies.
-pub fn skip_replies(s: &[u8], at: usize, n: usize) -> Place
+// A list of records, with its count in front.
+pub fn find_list<R: Record>(s: &[u8], at: usize) -> Option<Listed>
     requires { (length s.now ≤ 16384) × (at ≤ length s.now * 8) }
-    ensures { Walked (stream s.now) (rest (gets reply n (drop at (stream s.now)))) result }
-{
-    let mut p = at;
-    let mut left = n;
-    while 0 < left {
-        let Place::At(q) = skip_reply(s, p) else {
-            return Place::Short;
-        };
-        p = q;
-        left -= 1;
-    }
-    Place::At(p)
-}
-
-// The list of edges, of 140 bits each, with its count in front.
-pub fn edge_list(s: &[u8], at: usize) -> Counted
-    requires { (length s.now ≤ 16384) × (at ≤ length s.now * 8) }
-    ensures { Counts edge (stream s.now) at result }
+    ensures { CountsBy R.all_end (stream s.now) at result }
 {
     if s.len() * 8 - at < 10 {
-        return Counted::Cut;
+        return None;
     }
-    let n = bits::read(s, at, 10) as usize;
-    let Place::At(next) = skip(s, at + 10, n * 140) else {
-        return Counted::Cut;
-    };
-    Counted::Listed(n, at + 10, next)
+    let count = bits::read(s, at, 10) as usize;
+    let first = at + 10;
+    let next = R::skip_all(s, first, count)?;
+    Some(Listed { count, first, next })
 }
 
-// The list of initial events, with its count in front.
-pub fn message_list(s: &[u8], at: usize) -> Counted
-    requires { (length s.now ≤ 16384) × (at ≤ length s.now * 8) }
-    ensures { Counts message (stream s.now) at result }
-{
-    if s.len() * 8 - at < 10 {
-        return Counted::Cut;
-    }
-    let n = bits::read(s, at, 10) as usize;
-    let Place::At(next) = skip_messages(s, at + 10, n) else {
-        return Counted::Cut;
-    };
-    Counted::Listed(n, at + 10, next)
-}
-
-// The list of replies, with its count in front.
-pub fn reply_list(s: &[u8], at: usize) -> Counted
-    requires { (length s.now ≤ 16384) × (at ≤ length s.now * 8) }
-    ensures { Counts reply (stream s.now) at result }
-{
-    if s.len() * 8 - at < 10 {
-        return Counted::Cut;
-    }
-    let n = bits::read(s, at, 10) as usize;
-    let Place::At(next) = skip_replies(s, at + 10, n) else {
-        return Counted::Cut;
-    };
-    Counted::Listed(n, at + 10, next)
-}
-
-// The whole contents: process count, lookahead, horizon and budget have 327 bits.
-pub fn find_lists(s: &[u8]) -> Lists
+// The whole contents, and the place behind them: process count, lookahead, horizon and budget have 327
+// bits.
+pub fn find_lists(s: &[u8]) -> Option<(Parts, usize)>
     requires { length s.now ≤ 16384 }
     ensures { Walks (stream s.now) result }
 {
     if s.len() * 8 < 327 {
-        return Lists::Ends;
+        return None;
     }
-    let Counted::Listed(edges, _, p) = edge_list(s, 327) else {
-        return Lists::Ends;
-    };
-    let Counted::Listed(initial, initial_at, q) = message_list(s, p) else {
-        return Lists::Ends;
-    };
-    let Counted::Listed(replies, replies_at, end) = reply_list(s, q) else {
-        return Lists::Ends;
-    };
+    let edges = find_list::<EdgeList>(s, 327)?;
+    let initial = find_list::<MessageList>(s, edges.next)?;
+    let replies = find_list::<ReplyList>(s, initial.next)?;
     let parts = Parts {
-        number: 0,
-        edges: edges,
-        initial: initial,
-        initial_at: initial_at,
-        replies: replies,
-        replies_at: replies_at,
+        edges: edges.count,
+        initial: initial.count,
+        initial_at: initial.first,
+        replies: replies.count,
+        replies_at: replies.first,
     };
-    Lists::Whole(parts, end)
-}
-
-// A number that refuses, and nothing beside it.
-pub fn refused(number: u64) -> Parts
-    ensures { result ≡ nothing_beside number }
-{
-    Parts {
-        number: number,
-        edges: 0,
-        initial: 0,
-        initial_at: 0,
-        replies: 0,
-        replies_at: 0,
-    }
+    Some((parts, replies.next))
 }
 
 // "38 file above 16,384 bytes, checked first; 37 file too short, bytes left over or a set padding bit".
-pub fn check_file(s: &[u8]) -> Parts
+pub fn check_file(s: &[u8]) -> Result<Parts, FileRefusal>
     ensures { Checks s.now result }
 {
     if 16384 < s.len() {
-        return refused(38);
+        return Err(FileRefusal::TooLong);
     }
-    let Lists::Whole(parts, end) = find_lists(s) else {
-        return refused(37);
+    let Some((parts, end)) = find_lists(s) else {
+        return Err(FileRefusal::Malformed);
     };
     let left = s.len() * 8 - end;
     if 8 <= left {
-        return refused(37);
+        return Err(FileRefusal::Malformed);
     }
     if bits::read(s, end, left) != 0 {
-        return refused(37);
+        return Err(FileRefusal::Malformed);
     }
-    parts
+    Ok(parts)
 }

@@ -56,6 +56,3 @@ can_link_one s count k t₀ t c g p l = record {
 
 pub linked_one : (s : List ℕ) (rs : List Reply) (k : ℕ) (t t' : List ℕ) → 0 < k → k ≤ length rs → LinksOne s (k - 1) t t' → Table (stream s) rs (drop k rs) k t → Table (stream s) rs (drop (k - 1) rs) (k - 1) t'
 linked_one s rs k t t' p l h i = h rs (omega arith) (let z : k ≡ suc (k - 1) = omega arith in subst (λ (n : ℕ). Table (stream s) rs (drop n rs) n t) z i)
-
-pub all_linked : (s : List ℕ) (rs : List Reply) (k : ℕ) (t : List ℕ) → k ≡ 0 → Table (stream s) rs (drop k rs) k t → Table (stream s) rs rs 0 t
-all_linked s rs k t e i = subst (λ (n : ℕ). Table (stream s) rs (drop n rs) n t) e i

@@ -15,8 +15,7 @@ use Rattle.plan_file.specs.Plan.{Reply}
 use Rattle.plan_file.specs.Grammar.{reply}
 use Rattle.plan_file.specs.Standing.{Standing}
 use Rattle.plan_file.specs.Walked.{rest, Walked}
-use Rattle.plan_file.specs.declared.Place.{Place}
-use Rattle.plan_file.specs.declared.Place.TheVariants.{At, Short}
+use Rattle.std.proofs.Common.{Option, Some, None}
 use Rattle.plan_file.proofs.Stands.{after_first, first_stands, others_stand}
 use Rattle.plan_file.proofs.Steps.{walk_in}
 use Rattle.plan_rules.specs.Laws.{replies_by}
@@ -39,7 +38,7 @@ zero_word (suc n) (suc i) = zero_word n i
 pub noting_start : (b : List Bool) (rs : List Reply) (p : ℕ) (t : List ℕ) → t ≡ zeroes 2112 → length rs < 1024 → Standing reply b p rs → Noting b rs 0 p t
 noting_start b rs p t z f g = record { words = ap length z; few = f; inside = omega arith; ahead = g; placed = λ j l. absurd (omega arith); blank = λ q l. ap (λ (w : List ℕ). get_or w q 0) z ∙ zero_word 2112 q }
 
-module _ (b : List Bool) (rs : List Reply) (k p : ℕ) (t : List ℕ) (i : Noting b rs k p t) (l : k < length rs) (r : Place) (w : Walked b (rest (reply.get (drop p b))) r) where
+module _ (b : List Bool) (rs : List Reply) (k p : ℕ) (t : List ℕ) (i : Noting b rs k p t) (l : k < length rs) (r : Option ℕ) (w : Walked b (rest (reply.get (drop p b))) r) where
   here : Standing reply b p (reply_at rs k ∷ drop (suc k) rs)
   here = subst (Standing reply b p) (drop-cons rs k _ l) i.ahead
 
@@ -47,10 +46,10 @@ module _ (b : List Bool) (rs : List Reply) (k p : ℕ) (t : List ℕ) (i : Notin
   unfolding rest
   stands = ap rest (first_stands here)
 
-  pub noting_short : r ≡ Short → ⊥
+  pub noting_short : r ≡ None → ⊥
   noting_short e = let s : short ≡ got tt (after_first here) = rw e at w.ends ∙ stands in let z : ◌≡◌ {A = ℕ} 0 1 = cc in absurd (omega arith)
 
-  module _ (q : ℕ) (e : r ≡ At q) where
+  module _ (q : ℕ) (e : r ≡ Some q) where
     behind_it : drop q b ≡ after_first here
     behind_it = let s : got tt (drop q b) ≡ got tt (after_first here) = rw e at w.ends ∙ stands in cc
 

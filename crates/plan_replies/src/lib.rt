@@ -8,7 +8,6 @@ ghost use Rattle.records.specs.Records.{events_of, Owners};
 ghost use Rattle.plan_replies.specs.Fills.{CanReply, Takes, Fills};
 ghost use Rattle.plan_replies.specs.Finds.{CanFind, Notes, CanLinkOne, LinksOne, CanLink, Links, Finds};
 
-use plan_file::Place;
 use types::LpId;
 
 // The words of a table: a link for each process, and two words for each of at most 1,023 replies.
@@ -20,14 +19,12 @@ fn note_places(s: &[u8], at: usize, count: usize, table: &mut [u64])
     ensures { Notes s.now at count table.new }
 {
     let mut p = at;
-    let mut k: usize = 0;
-    while k < count {
+    for k in 0..count {
         table[64 + 2 * k] = p as u64;
-        let Place::At(q) = plan_file::skip_reply(s, p) else {
+        let Some(q) = plan_file::skip_reply(s, p) else {
             return;
         };
         p = q;
-        k += 1;
     }
 }
 
@@ -47,9 +44,7 @@ fn link_replies(s: &[u8], count: usize, table: &mut [u64])
     requires { CanLink s.now count table.old }
     ensures { Links s.now count table.old table.new }
 {
-    let mut k = count;
-    while 0 < k {
-        k -= 1;
+    for k in (0..count).rev() {
         link_reply(s, k, table);
     }
 }
@@ -92,10 +87,8 @@ pub fn fill_reply<'a>(
     ensures result_in_bounds { 8 * result ≤ length reply.new }
 {
     let mut emitted: usize = 0;
-    let mut i: usize = 0;
-    while i < count {
+    for i in 0..count {
         emitted = take_reply(s, batch[8 * i] as usize, table, reply, emitted);
-        i += 1;
     }
     emitted
 }

@@ -14,4 +14,4 @@ returns-then-s-at-lt16 c =
 pub returns : goal.returns
 returns c =
     let a = c.args in
-    lead_on (stream a.s.now) a.at 6 10 (rw length_stream (omega arith)) _ _ (rest_reply _) (rw length_stream (omega arith)) c.read-n.result c.read-n.ensures _ c.skip_messages.ensures
+    lead_on (stream a.s.now) a.at 6 10 (rw length_stream (omega arith)) _ _ (rest_reply _) (rw length_stream (omega arith)) c.read-n.result c.read-n.ensures _ c.skip_all.ensures

@@ -1,4 +1,3 @@
-use Prim.Native.Nat.{◌≤◌}
 use Rattle.bits.specs.Bytes.{stream}
 use Rattle.plan_file.specs.Plan.{Reply}
 use Rattle.plan_replies.specs.Table.{Table}
@@ -8,7 +7,4 @@ use mathlib.Core.Path.{◌≡◌}
 use Rattle.plan_replies.proofs.link_replies.Given as goal
 
 abbrev pub invariant-loop-k : goal.invariant-loop-k
-invariant-loop-k l = (l.k ≤ l.count) × (length l.table ≡ length l.initial.table) × ((rs : List Reply) → l.count ≡ length rs → Table (stream l.s) rs (drop l.count rs) l.count l.initial.table → Table (stream l.s) rs (drop l.k rs) l.k l.table)
-
-abbrev pub decreases-loop-k : goal.decreases-loop-k
-decreases-loop-k l = l.k
+invariant-loop-k l = (rs : List Reply) → l.count ≡ length rs → Table (stream l.s) rs (drop l.count rs) l.count l.initial.table → Table (stream l.s) rs (drop l.k rs) l.k l.table
