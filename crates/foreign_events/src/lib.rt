@@ -18,15 +18,7 @@ pub fn invalid_events(w: &[u64], count: usize, n: u64) -> bool
     requires { 8 * count ≤ length w.now }
     ensures { result ≡ any_invalid_event n (events_of count w.now) }
 {
-    let mut i: usize = 0;
-    while i < count {
-        let e = records::record_in(w, 8 * i);
-        if is_invalid(e, n) {
-            return true;
-        }
-        i += 1;
-    }
-    false
+    records::any_event(w, count, |e| is_invalid(e, n))
 }
 
 fn is_invalid(e: Record, n: u64) -> bool
@@ -46,15 +38,7 @@ pub fn sequence_not_below_next(w: &[u64], count: usize, next: u64) -> bool
     requires { 8 * count ≤ length w.now }
     ensures { result ≡ any_sequence_not_below next (events_of count w.now) }
 {
-    let mut i: usize = 0;
-    while i < count {
-        let e = records::record_in(w, 8 * i);
-        if next <= e.sequence {
-            return true;
-        }
-        i += 1;
-    }
-    false
+    records::any_event(w, count, |e| next <= e.sequence)
 }
 
 // 11: whether the destinations rise strictly.
@@ -62,14 +46,5 @@ pub fn rising_by_process(w: &[u64], count: usize) -> bool
     requires { 8 * count ≤ length w.now }
     ensures { result ≡ rising by_process (events_of count w.now) }
 {
-    let mut i: usize = 0;
-    while i + 1 < count {
-        let e = records::record_in(w, 8 * i);
-        let next = records::record_in(w, 8 * (i + 1));
-        if next.destination <= e.destination {
-            return false;
-        }
-        i += 1;
-    }
-    true
+    records::each_next(w, count, |e, next| e.destination < next.destination)
 }

@@ -1,22 +1,20 @@
 -- What a pass over the events gathers: the least tick, and whether they rise.
 use mathlib.Core.Path.{◌≡◌, refl, sym, ap, ◌∙◌}
-use mathlib.Core.Bool.{Bool, true, false, not}
+use mathlib.Core.Bool.{Bool, true, false}
 use mathlib.Core.List.{List}
 use Prim.Native.Nat.{ℕ, ◌+◌, ◌-◌, ◌*◌, ◌≤◌, ◌<◌, min}
-use borrow.Author.Tests.{not-true, not-false}
 use Rattle.types.specs.declared.SimTime.{SimTime}
 use Rattle.types.specs.Value.{ticks_of}
 use Rattle.words.specs.Words.{tab, tick_at}
 use Rattle.words.proofs.Tab.{tab_cong, map_tab, tab_next, tab_none, tab_whole}
-use Rattle.rules.specs.Base.{rising}
+use Rattle.rules.specs.Base.{any, rising}
 use Rattle.rules.specs.State.{Event}
-use Rattle.rules.specs.Pending.{before}
 use Rattle.rules.specs.Refresh.{least}
 use Rattle.records.specs.declared.Record.{Record}
 use Rattle.records.specs.Records.{event_of, record_in, event_at, events_of}
 use Rattle.records.specs.Queue.{event_ticks}
 use Rattle.records.proofs.Stored.{event_read, event_tick}
-use Rattle.records.proofs.Passes.{Climbing, climbing_more, climbing_stop}
+use Rattle.records.proofs.Passes.{Seeking, answer_passed, answer_found, Climbing, climbing_more, climbing_stop}
 
 -- The least of m and f i, f (i + 1), .., those below n: a pass over any numbers.
 module _ (f : ℕ → ℕ) (n : ℕ) where
@@ -39,13 +37,25 @@ ticks_end w n i m k h e =
     let t : event_ticks (events_of n w) ≡ tab (λ j. tick_at w (8 * j + 1)) 0 n = map_tab (λ (x : Event). x.tick) (event_at w) 0 n ∙ tab_cong _ _ 0 n (λ j a b. event_tick w j) in
     least_end (λ j. tick_at w (8 * j + 1)) n i m k h e ∙ ap (least m) (sym t)
 
--- The event in front of i against the record r of event i.
-module _ (w : List ℕ) (n i : ℕ) (r : Record) (b : Bool) (p : 0 < i) (h : i < n) (s : Climbing before (event_at w) n i) (e : r ≡ record_in w (8 * i)) (q : b ≡ before (event_at w (i - 1)) (event_of r)) where
-  tested : (t : Bool) → b ≡ t → before (event_at w (i - 1)) (event_at w i) ≡ t
-  tested t g = ap (before (event_at w (i - 1))) (event_read w i r e) ∙ sym q ∙ g
+-- Event i by its record r, against a rule: b is what a test answers of it.
+module _ (rule : Event → Bool) (w : List ℕ) (n i : ℕ) (r : Record) (b : Bool) (h : i < n) (s : Seeking rule (event_at w) n i) (e : r ≡ record_in w (8 * i)) (q : b ≡ rule (event_of r)) where
+  told : b ≡ rule (event_at w i)
+  told = q ∙ sym (ap rule (event_read w i r e))
 
-  pub next_passed : not b ≡ false → Climbing before (event_at w) n (i + 1)
-  next_passed g = climbing_more before (event_at w) n i p h s (tested true (not-false b g))
+  pub event_passed : b ≡ false → Seeking rule (event_at w) n (i + 1)
+  event_passed t = answer_passed rule (event_at w) n i h s b told t
 
-  pub next_stops : not b ≡ true → false ≡ rising before (events_of n w)
-  next_stops g = climbing_stop before (event_at w) n i p h s (tested false (not-true b g))
+  pub event_found : b ≡ true → true ≡ any rule (events_of n w)
+  event_found t = answer_found rule (event_at w) n i h s b told t
+
+-- The event in front of i by its record r, and event i by its record t.
+module _ (rule : Event → Event → Bool) (w : List ℕ) (n i : ℕ) (r t : Record) (b : Bool) (p : 0 < i) (h : i < n) (s : Climbing rule (event_at w) n i)
+    (e : r ≡ record_in w (8 * (i - 1))) (f : t ≡ record_in w (8 * i)) (q : b ≡ rule (event_of r) (event_of t)) where
+  tested : rule (event_at w (i - 1)) (event_at w i) ≡ b
+  tested = (λ k. rule (event_read w (i - 1) r e k) (event_read w i t f k)) ∙ sym q
+
+  pub next_passed : b ≡ true → Climbing rule (event_at w) n (i + 1)
+  next_passed g = climbing_more rule (event_at w) n i p h s (tested ∙ g)
+
+  pub next_stops : b ≡ false → false ≡ rising rule (events_of n w)
+  next_stops g = climbing_stop rule (event_at w) n i p h s (tested ∙ g)

@@ -1,15 +1,12 @@
-use Rattle.records.proofs.Passes.{seeking_start}
-use Rattle.foreign_events.proofs.Clauses.{invalid_passed, invalid_found, none_invalid}
+use borrow.Author.Rules.{rules}
+use mathlib.Core.Path.{◌∙◌}
+use Rattle.records.specs.Records.{events_of}
+use Rattle.rules.specs.Foreign.{unknown_id_event, long_payload}
+use Rattle.foreign_events.specs.Clauses.{invalid_event}
+use Rattle.foreign_events.proofs.Clauses.{any_or}
 use Rattle.foreign_events.proofs.invalid_events.Goals as goal
 
-pub loop-i-init : goal.loop-i-init
-loop-i-init c = search seeking_start depth 1
-
-pub returns-then-is_invalid : goal.returns-then-is_invalid
-returns-then-is_invalid c = search invalid_found depth 1
-
-pub loop-i-preserved : goal.loop-i-preserved
-loop-i-preserved c = search invalid_passed depth 1
-
 pub returns : goal.returns
-returns c = search none_invalid depth 1
+returns c =
+    c.any_event.ensures (invalid_event c.args.n) (λ r b e. search rules)
+    ∙ any_or (unknown_id_event c.args.n) long_payload (events_of c.args.count c.args.w.now)
