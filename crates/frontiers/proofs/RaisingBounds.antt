@@ -1,4 +1,5 @@
 -- Bounds are written, from the last edge to the first.
+use mir.Val.{bool_byte}
 use mathlib.Core.Path.{◌≡◌, refl, sym, ap, ◌∙◌}
 use mathlib.Core.Bool.{Bool, true, false}
 use mathlib.Core.List.{List, []}
@@ -20,7 +21,7 @@ use Rattle.rules.specs.Base.{if◌then◌otherwise◌}
 use Rattle.rules.specs.State.{Edge, with_bound, State}
 use Rattle.rules.specs.Step.{input_frontier, new_bound, raised_edges, count_raised, new_edges, null_messages_of}
 use Rattle.rules.specs.InPlace.{with_edges, raise_bounds}
-use Rattle.rules.proofs.Tests.{by_test, not_both}
+use Rattle.rules.proofs.Tests.{by_test}
 use Rattle.rules.proofs.InPlace.{raised_at_once}
 use Rattle.inbound.specs.Inbound.{LowersInbound, RecordsInbound, Destinations}
 use Rattle.inbound.proofs.Recording.{Recording, recording_start, recording_more, recording_end, safe_in}
@@ -92,11 +93,8 @@ module _ (w : List ℕ) (i : ℕ) (to : SimTime) where
       }
 
   module _ (u : List ℕ) (r : Bool) (l : 6 * i + 6 ≤ length w) (s : RaisesTick w (6 * i + 4) to u r) where
-    pub edge_rises : r ≡ true → RaisedEdge i (ticks_of to) w u 1
-    edge_rises = by_rise w (6 * i + 4) to u r s (λ v b. b ≡ true → RaisedEdge i (ticks_of to) w v 1) (λ h _. edge_up l (rw (edge_bound w i) h)) (λ h e. not_both e refl)
-
-    pub edge_stays : r ≡ false → RaisedEdge i (ticks_of to) w u 0
-    edge_stays = by_rise w (6 * i + 4) to u r s (λ v b. b ≡ false → RaisedEdge i (ticks_of to) w v 0) (λ h e. not_both refl e) (λ h _. edge_kept (rw (edge_bound w i) h))
+    pub edge_rises : RaisedEdge i (ticks_of to) w u (bool_byte r)
+    edge_rises = by_rise w (6 * i + 4) to u r s (λ v b. RaisedEdge i (ticks_of to) w v (bool_byte b)) (λ h. edge_up l (rw (edge_bound w i) h)) (λ h. edge_kept (rw (edge_bound w i) h))
 
 one_most : (b : Bool) → one_if b ≤ 1
 one_most b = by_test (λ (x : ℕ). x ≤ 1) (λ e. omega arith) (λ e. omega arith)

@@ -13,7 +13,7 @@ ghost use Rattle.frontiers.specs.Tables.{FirstTicks, FirstTickSet, capped};
 ghost use Rattle.frontiers.specs.Rises.{FindsBound, RaisedEdge, CanRaise, RaisesBounds};
 ghost use Rattle.frontiers.specs.InputFrontiers.{RaisedHorizon, RaisedHorizons, ReadsFrontiers, Eligible};
 
-use types::{Added, SimDuration, SimTime};
+use types::{SimDuration, SimTime};
 
 // The first pending tick of n processes, or `none`. From the end: the first is what stays.
 pub fn first_ticks(pending: &[u64], count: usize, n: usize, none: SimTime, first: &mut [u64])
@@ -21,9 +21,7 @@ pub fn first_ticks(pending: &[u64], count: usize, n: usize, none: SimTime, first
     ensures { FirstTicks n (events_of count pending.now) (ticks_of none) first.new }
 {
     words::fill(first, n, none);
-    let mut i = count;
-    while 0 < i {
-        i -= 1;
+    for i in (0..count).rev() {
         set_first_tick(pending, i, first);
     }
 }
@@ -45,10 +43,9 @@ fn set_first_tick(pending: &[u64], i: usize, first: &mut [u64])
 pub fn advanced_bound(frontier: SimTime, lookahead: SimDuration, top: SimTime) -> SimTime
     ensures { ticks_of result ≡ capped (ticks_of top) (duration_of lookahead) (ticks_of frontier) }
 {
-    let sum = frontier.checked_add(lookahead);
-    match sum {
-        Added::Sum(t) => top.min(t),
-        Added::Overflow => top,
+    match frontier.checked_add(lookahead) {
+        Some(t) => top.min(t),
+        None => top,
     }
 }
 
@@ -57,9 +54,7 @@ fn input_frontiers(processes: &[u64], first: &mut [u64], n: usize, top: SimTime)
     requires { (n ≤ 64) × (length processes.now ≡ 256) × (length first.old ≡ 128) }
     ensures { ReadsFrontiers n (ticks_of top) processes.now first.old first.new }
 {
-    let mut p = n;
-    while 0 < p {
-        p -= 1;
+    for p in (0..n).rev() {
         let front = inbound::frontier(processes, p, top);
         let tick = words::tick_in(first, 2 * p);
         words::put_tick(first, 2 * p, front.min(tick));
@@ -93,13 +88,13 @@ fn source_bound(
     {
         return last;
     }
-    let from = edges[6 * i];
-    let at = (2 * from) as usize;
+    let source = edges[6 * i];
+    let at = (2 * source) as usize;
     let frontier = words::tick_in(frontiers, at);
     let lookahead = words::duration_in(edges, 6 * i + 2);
     SourceBound {
-        source: from,
-        lookahead: lookahead,
+        source,
+        lookahead,
         bound: advanced_bound(frontier, lookahead, top),
     }
 }
@@ -109,10 +104,7 @@ fn raise_bound(edges: &mut [u64], i: usize, t: SimTime) -> usize
     requires { 6 * i + 6 ≤ length edges.old }
     ensures { RaisedEdge i (ticks_of t) edges.old edges.new result }
 {
-    if words::raise_tick(edges, 6 * i + 4, t) {
-        return 1;
-    }
-    0
+    usize::from(words::raise_tick(edges, 6 * i + 4, t))
 }
 
 // The bounds of an advance, each written when it is found, edge by edge (request A.3); how many rose.
@@ -138,22 +130,12 @@ pub fn raise_bounds(
         lookahead: SimDuration::ZERO,
         bound: top,
     };
-    let mut i = count;
-    while 0 < i {
-        i -= 1;
+    for i in (0..count).rev() {
         last = source_bound(edges, i, first, top, last);
-        let bound = last.bound;
-        raised += raise_bound(edges, i, bound);
+        raised += raise_bound(edges, i, last.bound);
         inbound::lower(edges, i, processes);
     }
     raised
-}
-
-// Whether one of the two holds.
-pub fn either(a: bool, b: bool) -> bool
-    ensures { result ≡ (a || b) }
-{
-    if a { true } else { b }
 }
 
 // What a pass over local horizons finds: whether one rose, the least first pending tick, and the least
@@ -176,10 +158,8 @@ pub fn raise_horizons(processes: &mut [u64], n: usize, first: &[u64], top: SimTi
         horizon: top,
         rose: false,
     };
-    let mut left = n;
-    while 0 < left {
-        left -= 1;
-        r = raise_horizon(processes, left, first, top, r);
+    for i in (0..n).rev() {
+        r = raise_horizon(processes, i, first, top, r);
     }
     r
 }
@@ -199,12 +179,10 @@ fn raise_horizon(
     let tick = words::tick_in(first, 2 * i);
     let rose = words::raise_tick(processes, 2 * i, front.min(tick));
     let horizon = words::tick_in(processes, 2 * i);
-    let least_tick = found.tick;
-    let least = found.horizon;
     Raised {
-        tick: least_tick.min(tick),
-        horizon: least.min(horizon),
-        rose: either(rose, found.rose),
+        tick: found.tick.min(tick),
+        horizon: found.horizon.min(horizon),
+        rose: rose || found.rose,
     }
 }
 
@@ -218,14 +196,9 @@ pub fn has_eligible_event<'a>(
     requires { (n ≤ 64) × (length processes.now ≡ 256) × (length first.now ≡ 128) }
     ensures { Eligible n (ticks_of top) processes.now first.now result }
 {
-    let mut p: usize = 0;
-    while p < n {
+    (0..n).any(|p| {
         let front = inbound::frontier(processes, p, top);
         let tick = words::tick_in(first, 2 * p);
-        if tick.lt(front) {
-            return true;
-        }
-        p += 1;
-    }
-    false
+        tick.lt(front)
+    })
 }

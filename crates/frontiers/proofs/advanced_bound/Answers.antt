@@ -1,12 +1,8 @@
 use Rattle.frontiers.proofs.Capped.{capped_sum, capped_over}
 use Rattle.frontiers.proofs.advanced_bound.Goals as goal
 
-pub returns-in-Sum : goal.returns-in-Sum
-returns-in-Sum c =
-    let k = c.checked_add-sum in
-    capped_sum k.result _ _ _ _ _ k.ensures c.in-Sum.is c.min.ensures
+pub returns-in-Some : goal.returns-in-Some
+returns-in-Some c = capped_sum _ _ _ _ _ c.in-Some.ensures c.min.ensures
 
-pub returns-in-Overflow : goal.returns-in-Overflow
-returns-in-Overflow c =
-    let k = c.checked_add-sum in
-    capped_over k.result _ _ _ k.ensures c.in-Overflow.is
+pub returns-in-None : goal.returns-in-None
+returns-in-None c = capped_over _ _ _ c.in-None.ensures

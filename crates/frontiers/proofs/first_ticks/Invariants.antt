@@ -6,5 +6,3 @@ use Rattle.frontiers.proofs.first_ticks.Given as goal
 abbrev pub invariant-loop-i : goal.invariant-loop-i
 invariant-loop-i l = (length l.first ≡ 128) × Noting l.pending l.count l.initial.first l.i l.first
 
-abbrev pub decreases-loop-i : goal.decreases-loop-i
-decreases-loop-i l = l.i

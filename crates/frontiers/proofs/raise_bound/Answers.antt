@@ -1,8 +1,5 @@
-use Rattle.frontiers.proofs.RaisingBounds.{edge_rises, edge_stays}
+use Rattle.frontiers.proofs.RaisingBounds.{edge_rises}
 use Rattle.frontiers.proofs.raise_bound.Goals as goal
 
-pub returns-then-raise_tick : goal.returns-then-raise_tick
-returns-then-raise_tick c = search edge_rises depth 1
-
 pub returns : goal.returns
-returns c = search edge_stays depth 1
+returns c = rw c.from.ensures (edge_rises _ _ _ _ _ c.requires c.raise_tick.ensures)
