@@ -111,7 +111,6 @@ module _ (i : ℕ) (w processes b : List ℕ) (s : BatchScan) (m : Scannable i w
 
 -- take_batch: the events before i are passed.
 pub record Scanning (n : ℕ) (safe : ℕ → ℕ) (room : ℕ) (w₀ b₀ w c : List ℕ) (kept taken rest seen i : ℕ) : Type 0 where
-  pub within : i ≤ n
   pub counts : kept + taken ≡ i
   pub ranks : taken ≤ seen
   pub ahead : (k : ℕ) → i ≤ k → event_at w k ≡ event_at w₀ k
@@ -143,7 +142,6 @@ module _ (n : ℕ) (safe : ℕ → ℕ) (room : ℕ) (w₀ b₀ w b : List ℕ) 
       let t₀ : takes safe rest seen (event_at w₀ i) ≡ true = sym (ap (takes safe rest seen) same) ∙ t in
       let k = scan_take safe rest seen (event_at w₀ i) (tab (event_at w₀) (i + 1) (n - (i + 1))) t₀ in
       record {
-        within = omega arith;
         counts = omega (arith, s.counts);
         ranks = omega (arith, s.ranks, (takes_means safe rest seen (event_at w i) t).0);
         ahead = λ j l. s.ahead j (omega arith);
@@ -159,7 +157,6 @@ module _ (n : ℕ) (safe : ℕ → ℕ) (room : ℕ) (w₀ b₀ w b : List ℕ) 
       let t₀ : takes safe rest seen (event_at w₀ i) ≡ false = sym (ap (takes safe rest seen) same) ∙ t in
       let k = scan_keep safe rest seen (event_at w₀ i) (tab (event_at w₀) (i + 1) (n - (i + 1))) t₀ in
       record {
-        within = omega arith;
         counts = omega (arith, s.counts);
         ranks = omega (arith, s.ranks);
         ahead = λ j l. o j (λ x. omega (arith, s.counts)) ∙ s.ahead j (omega arith);
@@ -174,7 +171,6 @@ unfolding tab
 scanning_start n safe room w c =
     let z : n - 0 ≡ n = omega arith in
     record {
-      within = omega arith;
       counts = omega arith;
       ranks = omega arith;
       ahead = λ k h. refl;
@@ -196,14 +192,14 @@ scanning_more n safe room w₀ b₀ w b u c s r i h f d = go (takes safe s.room 
         let y = d.when_kept t in
         rw (y.0, y.1, y.2, y.3, d.seen) (keep_turn n safe room w₀ b₀ w b s.kept s.taken s.room s.seen i h f u t y.4 y.5 y.6)
 
-pub scanning_end : (n : ℕ) (safe : ℕ → ℕ) (room : ℕ) (w₀ b₀ w c : List ℕ) (s : BatchScan) (i : ℕ) → n ≤ i → Scanning n safe room w₀ b₀ w c s.kept s.taken s.room s.seen i → TakesBatch n safe room w₀ b₀ w c s
+pub scanning_end : (n : ℕ) (safe : ℕ → ℕ) (room : ℕ) (w₀ b₀ w c : List ℕ) (s : BatchScan) (i : ℕ) → n ≤ i → i ≤ n → Scanning n safe room w₀ b₀ w c s.kept s.taken s.room s.seen i → TakesBatch n safe room w₀ b₀ w c s
 unfolding tab scan
-scanning_end n safe room w₀ b₀ w c s i h f =
+scanning_end n safe room w₀ b₀ w c s i h within f =
     let z : n - i ≡ 0 = omega arith in
     record {
       events = sym (append-nil _) ∙ sym (rw z at f.events);
       left = sym (append-nil _) ∙ sym (rw z at f.left);
-      counts = omega (arith, f.counts, f.within);
+      counts = omega (arith, f.counts);
       beyond = f.beyond;
       behind = f.behind;
     }

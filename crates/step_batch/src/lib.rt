@@ -39,13 +39,11 @@ pub fn take_batch(
     let mut s = BatchScan {
         kept: 0,
         taken: 0,
-        room: room,
+        room,
         seen: 0,
     };
-    let mut i: usize = 0;
-    while i < count {
+    for i in 0..count {
         s = scan_event(pending, i, processes, top, batch, s);
-        i += 1;
     }
     s
 }
@@ -68,29 +66,25 @@ fn scan_event(
         keep_pending(pending, i, s.kept);
         return BatchScan {
             kept: s.kept + 1,
-            taken: s.taken,
-            room: s.room,
-            seen: s.seen,
+            ..s
         };
     }
     let t = words::tick_in(pending, 8 * i + 1);
     if is_taken(processes, to, t, top, s.room) {
         let e = records::record_in(pending, 8 * i);
-        let at = s.taken;
-        records::put_record(batch, 8 * at, e);
+        records::put_record(batch, 8 * s.taken, e);
         return BatchScan {
-            kept: s.kept,
-            taken: at + 1,
+            taken: s.taken + 1,
             room: s.room - 1,
             seen: to + 1,
+            ..s
         };
     }
     keep_pending(pending, i, s.kept);
     BatchScan {
         kept: s.kept + 1,
-        taken: s.taken,
-        room: s.room,
         seen: to + 1,
+        ..s
     }
 }
 

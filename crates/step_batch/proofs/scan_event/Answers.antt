@@ -10,8 +10,8 @@ pub is_taken-requires : goal.is_taken-requires
 is_taken-requires c =
     (owner _ _ _ _ c.args.s c.requires, c.requires.table)
 
-pub overflow_mul-at : goal.overflow_mul-at
-overflow_mul-at c =
+pub overflow_mul-s : goal.overflow_mul-s
+overflow_mul-s c =
     let p = place _ _ _ _ c.args.s c.requires _ _ _ c.if-to-s.false c.tick_in-t.ensures c.is_taken.ensures c.if-is_taken.true in
     omega (arith, p.0)
 
