@@ -97,12 +97,10 @@ fn wrong_record<'a>(processes: &'a [u64], made: &'a [u64], n: usize) -> bool
     requires { (n ≤ 64) × (length processes.now ≡ 256) × (length made.now ≡ 256) }
     ensures { result ≡ any (differs_at processes.now made.now) (up_to n) }
 {
-    let mut p: usize = 0;
-    while p < n {
+    for p in 0..n {
         if wrong_tick(processes, made, p) {
             return true;
         }
-        p += 1;
     }
     false
 }

@@ -1,4 +1,3 @@
-use Prim.Native.Nat.{◌-◌}
 use Rattle.records.proofs.Passes.{Seeking}
 use Rattle.foreign.specs.Tests.{differs_at}
 use Rattle.foreign.proofs.Compared.{each}
@@ -6,6 +5,3 @@ use Rattle.foreign.proofs.wrong_record.Given as goal
 
 abbrev pub invariant-loop-p : goal.invariant-loop-p
 invariant-loop-p l = Seeking (differs_at l.processes l.made) each l.n l.p
-
-abbrev pub decreases-loop-p : goal.decreases-loop-p
-decreases-loop-p l = l.n - l.p
