@@ -3,6 +3,9 @@ use mathlib.Core.Path.{◌≡◌, refl, sym, ap, ◌∙◌}
 use mathlib.Core.Bool.{true, false}
 use mathlib.Core.List.{List, [], ◌∷◌, ◌++◌, append_assoc}
 use Prim.Native.Nat.{ℕ, ◌<◌}
+use Rattle.std.specs.Prelude.{Option, Some}
+use Rattle.types.specs.declared.LpId.{LpId}
+use Rattle.types.specs.Value.{lp_id_of}
 use native.Mathlib.Omega.{arith}
 use lib.Dec.{eqb}
 use borrow.Author.Tests.{lt-ltb, le-ltb, eq-eqb, ne_eqb, eqb-true}
@@ -16,12 +19,9 @@ use Rattle.rules.proofs.Lists.{All}
 use Rattle.rules.proofs.Table.{unless_append}
 use Rattle.rules.proofs.Order.{Pairs}
 use Rattle.hand_back_emission.specs.Checks.{rows_of}
-use Rattle.hand_back_check.specs.EmissionRows.{own_rows, behind, first_failed, rows_of_next, rows_up_to, failed_row}
+use Rattle.hand_back_check.specs.EmissionRows.{own_rows, behind, first_failed, past_failed, rows_of_next, rows_up_to, failed_row}
 use Rattle.hand_back_emission.proofs.Checks.{Same}
 use Rattle.hand_back_check.proofs.Turns.{NotLater, From, Past, In, InTurn, past, beyond, from, turn, turn_rest}
-
-abbrev Placed : Event → Type 0
-Placed e = e.destination < 64
 
 abbrev Well : ℕ → Emission → Type 0
 Well mask x = failed mask x.emitter ≡ false
@@ -32,10 +32,10 @@ all_behind P p [] h = tt
 all_behind P p (x ∷ xs) h = by_bool (eqb x.emitter p) (λ b. rw b (all_behind P p xs h.1)) (λ b. rw b h)
 
 -- The first failed process is behind one that every event is behind.
-first_past : (mask p : ℕ) (es : List Event) → p < 64 → All (λ (f : Event). p < f.destination) es → p < first_failed mask es
+first_past : (mask p : ℕ) (es : List Event) → All (λ (f : Event). p < f.destination) es → past_failed (first_failed mask es) p ≡ false
 unfolding first_failed if◌then◌otherwise◌
-first_past mask p [] l a = l
-first_past mask p (f ∷ fs) l a = by_bool (failed mask f.destination) (λ b. rw b a.0) (λ b. rw b (first_past mask p fs l a.1))
+first_past mask p [] a = refl
+first_past mask p (f ∷ fs) a = by_bool (failed mask f.destination) (λ b. rw b (le-ltb f.destination p (omega (arith, a.0)))) (λ b. rw b (first_past mask p fs a.1))
 
 module _ (s : State) (e : Event) (es : List Event) where
   -- Emissions of other processes do not see the event.
@@ -47,17 +47,17 @@ module _ (s : State) (e : Event) (es : List Event) where
   unfolding first_tick first_of tick_or if◌then◌otherwise◌
   tick_other p h = rw (ne_eqb e.destination p (λ z. omega arith))
 
-  module _ (f : ℕ) where
+  module _ (f : Option LpId) where
     rows_past : (xs : List Emission) → All (Past e.destination) xs → rows_up_to s (e ∷ es) f xs ≡ rows_up_to s es f xs
     unfolding rows_up_to
     rows_past [] a = refl
     rows_past (x ∷ xs) a = λ i. rows_of_next s f (tick_other x.emitter a.0 i) x ++ rows_past xs a.1 i
 
-    own_rows_holds : (x : Emission) → x.emitter ≡ e.destination → e.destination < f → rows_of_next s f (first_tick (e ∷ es) x.emitter 0) x ≡ rows_of s e.tick x
+    own_rows_holds : (x : Emission) → x.emitter ≡ e.destination → past_failed f e.destination ≡ false → rows_of_next s f (first_tick (e ∷ es) x.emitter 0) x ≡ rows_of s e.tick x
     unfolding rows_of_next if◌then◌otherwise◌
-    own_rows_holds x h l = rw (tick_own x.emitter h, le-ltb f x.emitter (omega arith))
+    own_rows_holds x h l = rw (tick_own x.emitter h, ap (past_failed f) h ∙ l)
 
-    split_rows : e.destination < f → (xs : List Emission) → Pairs NotLater xs → All (From e.destination) xs → rows_up_to s (e ∷ es) f xs ≡ own_rows s e.tick e.destination xs ++ rows_up_to s es f (behind e.destination xs)
+    split_rows : past_failed f e.destination ≡ false → (xs : List Emission) → Pairs NotLater xs → All (From e.destination) xs → rows_up_to s (e ∷ es) f xs ≡ own_rows s e.tick e.destination xs ++ rows_up_to s es f (behind e.destination xs)
     unfolding rows_up_to own_rows behind if◌then◌otherwise◌
     split_rows l [] o a = refl
     split_rows l (x ∷ xs) o a =
@@ -68,10 +68,10 @@ module _ (s : State) (e : Event) (es : List Event) where
         rw b (rows_past (x ∷ xs) (z, past e.destination x xs z o.0)))
 
 -- None is checked where the first process failed.
-none_checked : (s : State) (q : List Event) (f : ℕ) (xs : List Emission) → All (Past f) xs → rows_up_to s q f xs ≡ []
+none_checked : (s : State) (q : List Event) (f : LpId) (xs : List Emission) → All (Past (lp_id_of f)) xs → rows_up_to s q (Some f) xs ≡ []
 unfolding rows_up_to rows_of_next if◌then◌otherwise◌
 none_checked s q f [] a = refl
-none_checked s q f (x ∷ xs) a = rw (lt-ltb f x.emitter a.0) (none_checked s q f xs a.1)
+none_checked s q f (x ∷ xs) a = rw (lt-ltb (lp_id_of f) x.emitter a.0) (none_checked s q f xs a.1)
 
 passes_failed : (mask p : ℕ) (xs : List Emission) → failed mask p ≡ true → All (From p) xs → All (Well mask) xs → All (Past p) xs
 passes_failed mask p [] h a w = tt
@@ -84,18 +84,18 @@ unfolding in_batch any
 nobody [] k = refl
 nobody (x ∷ xs) k = not_both k.0 refl
 
-pub rows_alike : (s : State) (mask : ℕ) (q : List Event) (xs : List Emission) → InTurn q xs → All Placed q → All (Well mask) xs → Same (process_rows s mask xs q) (rows_up_to s q (first_failed mask q) xs ++ failed_row (first_failed mask q))
+pub rows_alike : (s : State) (mask : ℕ) (q : List Event) (xs : List Emission) → InTurn q xs → All (Well mask) xs → Same (process_rows s mask xs q) (rows_up_to s q (first_failed mask q) xs ++ failed_row (first_failed mask q))
 unfolding Same process_rows rows_up_to first_failed unless if◌then◌otherwise◌
-rows_alike s mask [] xs t p w f d = rw (nobody xs t.known)
-rows_alike s mask (e ∷ es) xs t p w f d =
+rows_alike s mask [] xs t w f d = rw (nobody xs t.known)
+rows_alike s mask (e ∷ es) xs t w f d =
     ap (λ (r : List Row). unless r f d) (turn e es xs t s mask)
     ∙ by_bool (failed mask e.destination)
-    (λ b. rw (b, none_checked s (e ∷ es) e.destination xs (passes_failed mask e.destination xs b (from e es xs t) w), lt-ltb e.destination 64 p.0))
+    (λ b. rw (b, none_checked s (e ∷ es) (record { 0 = e.destination }) xs (passes_failed mask e.destination xs b (from e es xs t) w)))
     (λ b.
-    let z : e.destination < first_failed mask es = first_past mask e.destination es p.0 t.events.0 in
+    let z : past_failed (first_failed mask es) e.destination ≡ false = first_past mask e.destination es t.events.0 in
     let own = own_rows s e.tick e.destination xs in
     let rest = behind e.destination xs in
     let i : unless (process_rows s mask rest es) f d ≡ unless (rows_up_to s es (first_failed mask es) rest ++ failed_row (first_failed mask es)) f d =
-    rows_alike s mask es rest (turn_rest e es xs t) p.1 (all_behind (Well mask) e.destination xs w) f d in
+    rows_alike s mask es rest (turn_rest e es xs t) (all_behind (Well mask) e.destination xs w) f d in
     rw (b, split_rows s e es (first_failed mask es) z xs t.emissions (from e es xs t))
     (unless_append own (process_rows s mask rest es) f d ∙ ap (unless own f) i ∙ sym (unless_append own _ f d) ∙ ap (λ (r : List Row). unless r f d) (sym (append_assoc own _ _))))

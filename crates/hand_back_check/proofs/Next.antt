@@ -1,19 +1,21 @@
 -- What each return of one emission's check gives.
 use mathlib.Core.Path.{◌≡◌, refl, sym, ap, ◌∙◌}
 use mathlib.Core.Bool.{Bool, true, false, not}
-use mathlib.Core.List.{List, append-nil}
+use mathlib.Core.List.{List, ◌++◌, append-nil}
 use mathlib.Core.Logic.{⊎_elim}
+use Rattle.std.specs.Prelude.{Ok, Err, is_err}
 use Prim.Native.Nat.{ℕ, ◌+◌, ◌*◌, ◌-◌, ◌≤◌, ◌<◌}
 use native.Mathlib.Omega.{arith}
 use lib.Dec.{ltb, eqb}
 use lib.ListN.{length, get_or}
-use borrow.Author.Tests.{lt-ltb, le-ltb, eqb-false}
+use borrow.Author.Tests.{eqb-false}
 use Rattle.types.specs.declared.SimTime.{SimTime}
 use Rattle.types.specs.Value.{ticks_of, lp_id_of}
 use Rattle.types.proofs.Halves.{lt_or_ge}
 use Rattle.words.specs.Words.{tick_at}
 use Rattle.rules.specs.Base.{if◌then◌otherwise◌, any, any_of}
 use Rattle.rules.specs.State.{Event, saturating_add}
+use Rattle.rules.specs.Rows.{Row}
 use Rattle.rules.specs.Pending.{first_tick, tick_or}
 use Rattle.rules.specs.HandBack as Rule
 use Rattle.rules.specs.HandBack.{in_batch}
@@ -24,14 +26,13 @@ use Rattle.reply_words.specs.declared.Emission.{Emission}
 use Rattle.reply_words.specs.Emissions.{emission_of}
 use Rattle.reply_words.specs.Replies.{Places, MalformedEmission, malformed_emission}
 use Rattle.reply_words.proofs.Table.{absent, past_end, place_first}
-use Rattle.hand_back_emission.specs.declared.CheckResult.{CheckResult}
-use Rattle.hand_back_emission.specs.Checks.{CanCheck, ChecksEmission}
-use Rattle.hand_back_emission.proofs.Checks.{checks_same, same_behind, checks_front}
+use Rattle.hand_back_emission.specs.Checks.{CanCheck, ChecksRows, ChecksEmission}
+use Rattle.hand_back_emission.proofs.Checks.{Verdict, checks_same, same_behind, checks_front}
 use Rattle.state.specs.declared.Header.{Header}
-use Rattle.state.specs.declared.Answer.TheVariants as P
+use Rattle.state.specs.declared.Refusal.TheVariants as P
 use Rattle.hand_back_check.specs.declared.ReplyCheck.{ReplyCheck}
-use Rattle.hand_back_check.specs.EmissionRows.{counted, rows_of_next}
-use Rattle.hand_back_check.specs.Checks.{Checkable, refused_with, checked_as, tick_of, NextResult, ChecksNext, Checks}
+use Rattle.hand_back_check.specs.EmissionRows.{counted, past_failed, rows_of_next}
+use Rattle.hand_back_check.specs.Checks.{Checkable, checked_as, tick_of, NextResult, Checks}
 
 -- How many are remote.
 module _ (m : ℕ) (e : Emission) (x : Bool) (same : x ≡ eqb (lp_id_of e.destination) (lp_id_of e.source)) where
@@ -52,6 +53,15 @@ emitting q mask last x h = or_left (not (in_batch q x.emitter)) _ (or_right (ltb
 pub seated : (q : List Event) (T : List ℕ) (mask last : ℕ) (x : Rule.Emission) → Places q T → malformed_emission q mask last x ≡ false → get_or T x.emitter 0 ≡ 0 → ⊥
 seated q T mask last x p h = eqb-false (get_or T x.emitter 0) 0 (sym (absent q T x.emitter p) ∙ emitting q mask last x h)
 
+-- A check that refuses, with rows behind it; one that does not.
+refused_stays : (rs ts : List Row) (v : Verdict) → is_err v ≡ true → ChecksRows rs v → ChecksRows (rs ++ ts) v
+refused_stays rs ts (Ok _) x j = not_both x refl
+refused_stays rs ts (Err y) x j = checks_front rs ts y j
+
+passed_is : (v : Verdict) → is_err v ≡ false → v ≡ Ok tt
+passed_is (Ok _) x = refl
+passed_is (Err y) x = not_both refl x
+
 pub judgeable : (h : Header) (T Z B : List ℕ) → Checkable h T Z B → CanCheck h Z
 judgeable h T Z B s = record { few = s.few; process_words = s.process_words }
 
@@ -60,39 +70,25 @@ module _ (h : Header) (L : ℕ) (T Z B : List ℕ) (a : ReplyCheck) (e : Emissio
   q = events_of h.batch B
 
   -- The check so far stays.
-  stays_refused : (t : ℕ) → a.outcome.passed ≡ false → NextResult h L Z t a e a.outcome
+  stays_refused : (t : ℕ) → is_err a.outcome ≡ true → NextResult h L Z t a e a.outcome
   unfolding NextResult
-  stays_refused t x E Q W f w rs j = checks_front rs _ a.outcome j x
+  stays_refused t x E Q W f w rs j = refused_stays rs _ a.outcome x j
 
-  stays_behind : (t : ℕ) → a.failed < lp_id_of e.emitter → NextResult h L Z t a e a.outcome
+  stays_behind : (t : ℕ) → past_failed a.failed (lp_id_of e.emitter) ≡ true → NextResult h L Z t a e a.outcome
   unfolding NextResult rows_of_next if◌then◌otherwise◌
-  stays_behind t l E Q W f w rs j = rw (lt-ltb a.failed (lp_id_of e.emitter) l, append-nil) j
+  stays_behind t l E Q W f w rs j = rw (l, append-nil) j
 
-  checks_it : a.outcome.passed ≡ true → lp_id_of e.emitter ≤ a.failed → (time : SimTime) → (v : CheckResult) → ChecksEmission h L Z e time v → NextResult h L Z (ticks_of time) a e v
+  checks_it : is_err a.outcome ≡ false → past_failed a.failed (lp_id_of e.emitter) ≡ false → (time : SimTime) → (v : Verdict) → ChecksEmission h L Z e time v → NextResult h L Z (ticks_of time) a e v
   unfolding NextResult rows_of_next if◌then◌otherwise◌ ChecksEmission
-  checks_it x l time v j E Q W f w rs k = rw (le-ltb a.failed (lp_id_of e.emitter) l) (checks_same _ _ v (same_behind rs _ a.outcome k x) (j E Q W f w))
+  checks_it x l time v j E Q W f w rs k = rw l (checks_same _ _ v (same_behind rs _ (rw (passed_is _ x) at k)) (j E Q W f w))
 
-  pub check_stopped : a.going ≡ false → Checks h L T Z B a e a
-  check_stopped g = record { stopped = λ _. refl; next = λ y. not_both y g }
-
-  module _ (g : a.going ≡ true) (s : Checkable h T Z B) (x : Bool) (ill : MalformedEmission a.mask T a.last (emission_of e) x) where
+  module _ (s : Checkable h T Z B) (x : Bool) (ill : MalformedEmission a.mask T a.last (emission_of e) x) where
     ill_is : x ≡ malformed_emission q a.mask a.last (emission_of e)
     unfolding MalformedEmission
     ill_is = ill q s.places
 
-    from_next : (r : ReplyCheck) → ChecksNext h L T Z B a e r → Checks h L T Z B a e r
-    from_next r n = record { stopped = λ y. not_both g y; next = λ _. n }
-
-    pub check_malformed : x ≡ true → (r : ReplyCheck) → r ≡ refused_with a P.MalformedReply → Checks h L T Z B a e r
-    check_malformed t r y = from_next r (rw y (record {
-      same_mask = refl;
-      same_failed = refl;
-      not_malformed = ap not (sym t ∙ ill_is);
-      refused = λ _. refl;
-      last = λ z. not_both z refl;
-      remote = λ z. not_both z refl;
-      outcome_is = λ z. not_both z refl;
-    }))
+    pub check_malformed : x ≡ true → Checks h L T Z B a e (Err P.MalformedReply)
+    check_malformed t = record { malformed_holds = sym ill_is ∙ t; refused = refl }
 
     module _ (f : x ≡ false) (w : ℕ) (same : w ≡ lp_id_of e.emitter) where
       -- The emitter has an event in hand.
@@ -115,25 +111,17 @@ module _ (h : Header) (L : ℕ) (T Z B : List ℕ) (a : ReplyCheck) (e : Emissio
           rw same (s.place_words, s.batch_words, emitter-fits, omega (arith, seat), omega (arith, p.0, s.few_batch))
 
       module _ (m : ℕ) (c : m ≡ counted a.remote (emission_of e)) where
-        next : (v : CheckResult) → NextResult h L Z (first_tick q (lp_id_of e.emitter) 0) a e v → (r : ReplyCheck) → r ≡ checked_as a w m v → Checks h L T Z B a e r
-        next v n r y = from_next r (rw y (record {
-          same_mask = refl;
-          same_failed = refl;
-          not_malformed = g ∙ ap not (sym f ∙ ill_is);
-          refused = λ z. not_both g z;
-          last = λ _. same;
-          remote = λ _. c;
-          outcome_is = λ _. n;
-        }))
+        next : (v : Verdict) → NextResult h L Z (first_tick q (lp_id_of e.emitter) 0) a e v → (r : ReplyCheck) → r ≡ checked_as a w m v → Checks h L T Z B a e (Ok r)
+        next v n r y = rw y (record { same_mask = refl; same_failed = refl; not_malformed = sym ill_is ∙ f; last = same; remote = c; outcome_is = n })
 
-        pub check_refused : a.outcome.passed ≡ false → (r : ReplyCheck) → r ≡ checked_as a w m a.outcome → Checks h L T Z B a e r
-        check_refused y r z = next a.outcome (stays_refused _ y) r z
+        pub check_refused : is_err a.outcome ≡ true → (r : ReplyCheck) → r ≡ checked_as a w m a.outcome → Checks h L T Z B a e (Ok r)
+        check_refused o r z = next a.outcome (stays_refused _ o) r z
 
-        pub check_behind : a.failed < w → (r : ReplyCheck) → r ≡ checked_as a w m a.outcome → Checks h L T Z B a e r
+        pub check_behind : past_failed a.failed w ≡ true → (r : ReplyCheck) → r ≡ checked_as a w m a.outcome → Checks h L T Z B a e (Ok r)
         check_behind l r z = next a.outcome (stays_behind _ (rw same at l)) r z
 
-        pub check_checked : a.outcome.passed ≡ true → w ≤ a.failed → (time : SimTime) → ticks_of time ≡ tick_of T B w → (v : CheckResult) → ChecksEmission h L Z e time v
-            → (r : ReplyCheck) → r ≡ checked_as a w m v → Checks h L T Z B a e r
+        pub check_checked : is_err a.outcome ≡ false → past_failed a.failed w ≡ false → (time : SimTime) → ticks_of time ≡ tick_of T B w → (v : Verdict) → ChecksEmission h L Z e time v
+            → (r : ReplyCheck) → r ≡ checked_as a w m v → Checks h L T Z B a e (Ok r)
         check_checked y l time u v j r z =
             let t : ticks_of time ≡ first_tick q (lp_id_of e.emitter) 0 = u ∙ ap (tick_of T B) same ∙ tick_is in
             next v (rw (← t) (checks_it y (rw same at l) time v j)) r z

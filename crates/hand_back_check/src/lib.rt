@@ -7,77 +7,56 @@
 
 #![tactic(auto)]
 
-ghost use Rattle.std.specs.Prelude.{◌≡◌, true, ◌*◌, ◌≤◌, ◌<◌, length, get_or};
+ghost use Rattle.std.specs.Prelude.{◌≡◌, ◌*◌, ◌≤◌, ◌<◌, length, get_or};
 ghost use Rattle.types.specs.Value.{ticks_of, duration_of};
 ghost use Rattle.records.specs.Records.{events_of, Owners};
 ghost use Rattle.reply_words.specs.Emissions.{emission_of, emissions_of};
 ghost use Rattle.hand_back_edges.specs.Looks.{look_in_table, CanLook};
 ghost use Rattle.hand_back_check.specs.EmissionRows.{counted, first_failed};
-ghost use Rattle.hand_back_check.specs.Checks.{Checkable, start_of, refused_with, checked_as, tick_of, Checks, CheckStarted, Checked};
+ghost use Rattle.hand_back_check.specs.Checks.{Checkable, start_of, checked_as, tick_of, Checks, CheckStarted, Checked};
 
-use hand_back_emission::CheckResult;
 use reply_words::Emission;
-use state::{Answer, Header};
-use types::{MAX_PROCESSES, SimDuration, SimTime};
+use state::{Header, Refusal};
+use types::{LpId, SimDuration, SimTime};
 
-// How far a reply is checked. While `going`, `outcome` is what 28 to 33 say so far; after that its
-// answer refuses the whole call, and the state stays as given. `failed` is the first process in hand
-// that failed, or 64; `last` is the last emitter, and `remote` how many emissions are remote.
+// How far a reply is checked that is well formed so far. `outcome` is what 28 to 33 say of it so far,
+// `failed` the first process in hand that failed, `last` the last emitter, and `remote` how many
+// emissions are remote. A reply that is refused with the state left as given has none of this: its check
+// answers the refusal.
 #[derive(Clone, Copy)]
 pub struct ReplyCheck {
-    pub going: bool,
     pub last: u64,
     pub remote: u64,
     pub mask: u64,
-    pub failed: u64,
-    pub outcome: CheckResult,
+    pub failed: Option<LpId>,
+    pub outcome: Result<(), Refusal>,
 }
 
 // No emission is checked yet.
-pub fn start(mask: u64, failed: u64) -> ReplyCheck
+pub fn start(mask: u64, failed: Option<LpId>) -> ReplyCheck
     ensures { result ≡ start_of mask failed }
 {
     ReplyCheck {
-        going: true,
         last: 0,
         remote: 0,
         mask: mask,
         failed: failed,
-        outcome: CheckResult {
-            passed: true,
-            answer: Answer::Accepted,
-        },
+        outcome: Ok(()),
     }
 }
 
-// The call is refused, the state as given.
-pub fn refuse(a: ReplyCheck, answer: Answer) -> ReplyCheck
-    ensures { result ≡ refused_with a answer }
-{
-    let refused = CheckResult {
-        passed: false,
-        answer: answer,
-    };
-    let mut b = a;
-    b.going = false;
-    b.outcome = refused;
-    b
-}
-
-// The first process in hand that failed, or 64.
-pub fn first_failed(batch: &[u64], count: usize, mask: u64) -> u64
+// The first process in hand that failed.
+pub fn first_failed(batch: &[u64], count: usize, mask: u64) -> Option<LpId>
     requires { (8 * count ≤ length batch.now) × Owners count batch.now }
     ensures { result ≡ first_failed mask (events_of count batch.now) }
 {
-    let mut i: usize = 0;
-    while i < count {
+    for i in 0..count {
         let p = batch[8 * i];
         if reply_words::failed(mask, p) {
-            return p;
+            return Some(LpId::from_word(p));
         }
-        i += 1;
     }
-    MAX_PROCESSES
+    None
 }
 
 // "remote (destination is not source)"
@@ -100,14 +79,15 @@ fn tick_of<'a>(places: &'a [u64], batch: &'a [u64], p: u64) -> SimTime
 }
 
 // The emission of p is checked.
-fn checked(a: ReplyCheck, p: u64, remote: u64, verdict: CheckResult) -> ReplyCheck
+fn checked(a: ReplyCheck, p: u64, remote: u64, verdict: Result<(), Refusal>) -> ReplyCheck
     ensures { result ≡ checked_as a p remote verdict }
 {
-    let mut b = a;
-    b.last = p;
-    b.remote = remote;
-    b.outcome = verdict;
-    b
+    ReplyCheck {
+        last: p,
+        remote: remote,
+        outcome: verdict,
+        ..a
+    }
 }
 
 // 26 of the emission e, then 28 to 33 unless something is refused already or a process before e's
@@ -120,28 +100,25 @@ pub fn check<'a>(
     batch: &'a [u64],
     a: ReplyCheck,
     e: Emission,
-) -> ReplyCheck
-    requires { a.going ≡ true → Checkable head places.now processes.now batch.now }
+) -> Result<ReplyCheck, Refusal>
+    requires { Checkable head places.now processes.now batch.now }
     ensures { Checks head (duration_of lookahead) places.now processes.now batch.now a e result }
 {
-    if !a.going {
-        return a;
-    }
     if reply_words::malformed_emission(e, a.last, a.mask, places) {
-        return refuse(a, Answer::MalformedReply);
+        return Err(Refusal::MalformedReply);
     }
     let emitter = e.emitter.to_word();
     let remote = count_remote(a.remote, e);
     let so_far = a.outcome;
-    if !so_far.passed {
-        return checked(a, emitter, remote, so_far);
+    if so_far.is_err() {
+        return Ok(checked(a, emitter, remote, so_far));
     }
-    if a.failed < emitter {
-        return checked(a, emitter, remote, so_far);
+    if a.failed.is_some_and(|p| p.to_word() < emitter) {
+        return Ok(checked(a, emitter, remote, so_far));
     }
     let time = tick_of(places, batch, emitter);
     let verdict = hand_back_emission::check_emission(head, lookahead, processes, e, time);
-    checked(a, emitter, remote, verdict)
+    Ok(checked(a, emitter, remote, verdict))
 }
 
 // The emissions of a reply in words, each in turn.
@@ -155,17 +132,15 @@ pub fn check_words<'a>(
     start: ReplyCheck,
     reply: &'a [u64],
     count: usize,
-) -> ReplyCheck
+) -> Result<ReplyCheck, Refusal>
     requires { CheckStarted head places.now processes.now batch.now start × CanLook edges.now table.now places.now × (8 * count ≤ length reply.now) }
     ensures { Checked head (look_in_table edges.now table.now places.now) places.now processes.now batch.now start (emissions_of count reply.now) result }
 {
     let mut a = start;
-    let mut i: usize = 0;
-    while i < count {
+    for i in 0..count {
         let e = reply_words::emission_in(reply, 8 * i);
         let lookahead = hand_back_edges::lookahead_of(edges, table, places, e);
-        a = check(head, lookahead, places, processes, batch, a, e);
-        i += 1;
+        a = check(head, lookahead, places, processes, batch, a, e)?;
     }
-    a
+    Ok(a)
 }
