@@ -2,47 +2,12 @@
 use mathlib.Core.Path.{◌≡◌, refl, sym, ap, ◌∙◌}
 use mathlib.Core.Logic.{⊎_elim}
 use mathlib.Core.List.{List, [], ◌++◌, append-nil, append_assoc}
-use Prim.Native.Nat.{ℕ, ◌+◌, ◌-◌, ◌≤◌, ◌<◌}
+use Prim.Native.Nat.{ℕ, ◌+◌, ◌≤◌, ◌<◌}
 use native.Mathlib.Omega.{arith}
-use lib.ListN.{length, take, drop, length-append}
-use lib.Seq.{take_all, take-length, take_at, take-take, length-take-le}
-use borrow.Rule.Slice.PartMut.{mid_of, put_mid, same_len_mid}
+use lib.ListN.{length, take, length-append}
+use lib.Seq.{take_all, take-take}
 use Rattle.types.proofs.Halves.{lt_or_ge}
-use Rattle.records.proofs.Moved.{tail_back}
 use Rattle.plan_text.specs.Appends.{Appends, Listed}
-
--- There is no room: nothing is written, and the place is past the end.
-pub append_full : (w : List ℕ) (at : ℕ) (text : List ℕ) (r : ℕ) → length w < at + length text → length w < r → Appends w at text w r
-append_full w at text r h g = record { same = refl; kept = refl; fits = λ k. absurd (omega arith); full = λ k. g }
-
--- Copied into the part behind: t is the part as it comes back.
-module _ (w : List ℕ) (a : ℕ) (text t : List ℕ) (k : ℕ) (le : a ≤ length w) (room : length text ≤ length w - a) (n : k ≡ length text) where
-  whole : List ℕ
-  whole = put_mid a (length w - a) w t
-
-  front : length (take a w) ≡ a
-  front = length-take-le a w le
-
-  pub append_copied : t ≡ take (length text) text ++ drop (length text) (mid_of a (length w - a) w) → length t ≡ length (mid_of a (length w - a) w)
-      → Appends w a text (put_mid a (length w - a) w t) (a + k)
-  append_copied e l = record {
-    same = same_len_mid a (length w - a) w t l;
-    kept = ap (λ (v : List ℕ). take a v) (tail_back a w t) ∙ take_at (take a w) t a front;
-    fits = λ h. (ap (λ j. a + j) n, ap (λ j. take (a + j) (put_mid a (length w - a) w t)) n ∙ in_use);
-    full = λ h. absurd (omega arith);
-  }
-    where
-      rest : List ℕ
-      rest = drop (length text) (mid_of a (length w - a) w)
-
-      split : put_mid a (length w - a) w t ≡ (take a w ++ text) ++ rest
-      split = tail_back a w t ∙ ap (λ (v : List ℕ). take a w ++ v) (e ∙ ap (λ (v : List ℕ). v ++ rest) (take-length text)) ∙ sym (append_assoc (take a w) text rest)
-
-      long : length (take a w ++ text) ≡ a + length text
-      long = length-append (take a w) text ∙ ap (λ j. j + length text) front
-
-      in_use : take (a + length text) (put_mid a (length w - a) w t) ≡ take a w ++ text
-      in_use = ap (λ (v : List ℕ). take (a + length text) v) split ∙ take_at (take a w ++ text) rest (a + length text) long
 
 pub append_none : (w : List ℕ) (at : ℕ) → Appends w at [] w at
 append_none w at = record {

@@ -24,9 +24,6 @@ pub record Decimal (n end : ℕ) (old : List ℕ) (rest i : ℕ) (w : List ℕ) 
   pub place : i + length (decimal n) ≡ end + length (decimal rest)
   pub whole : decimal rest ++ drop i w ≡ decimal n ++ drop end old
 
-pub decimal_start : (n end : ℕ) (old : List ℕ) → Decimal n end old n end old
-decimal_start n end old = record { place = refl; whole = refl }
-
 some_decimal : (n : ℕ) → n < 10 → length (decimal n) ≡ 1
 some_decimal n h = rw (decimal_low n h)
 
@@ -64,9 +61,6 @@ pub record Hexadecimal (n first end : ℕ) (old : List ℕ) (rest i : ℕ) (w : 
   pub low : first ≤ i
   pub high : i ≤ end
   pub whole : hexadecimal (i - first) rest ++ drop i w ≡ hexadecimal (end - first) n ++ drop end old
-
-pub hexadecimal_start : (n first end : ℕ) (old : List ℕ) → first ≤ end → Hexadecimal n first end old n end old
-hexadecimal_start n first end old h = record { low = h; high = omega arith; whole = refl }
 
 pub hexadecimal_more : (n first end : ℕ) (old : List ℕ) (rest i : ℕ) (w : List ℕ) (x : ℕ) → first < i → end ≤ length w → x ≡ nibble (rest % 16)
     → Hexadecimal n first end old rest i w → Hexadecimal n first end old (rest / 16) (i - 1) (set w (i - 1) x)

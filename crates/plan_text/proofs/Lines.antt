@@ -3,7 +3,7 @@ use mathlib.Core.Path.{◌≡◌, refl, sym, ap, ◌∙◌, subst}
 use mathlib.Core.List.{List, [], ◌∷◌, ◌++◌, append-nil, append_assoc}
 use Prim.Native.Nat.{ℕ, ◌+◌, ◌-◌, ◌*◌, ◌≤◌, ◌<◌}
 use native.Mathlib.Omega.{arith}
-use lib.ListN.{length, take, drop, set, length-set, length-drop, drop_of_length-le}
+use lib.ListN.{length, take, drop, set, length-drop, drop_of_length-le}
 use lib.Seq.{take_all}
 use Rattle.rules.specs.State.{Event}
 use Rattle.types.specs.declared.SimTime.{SimTime}
@@ -17,7 +17,7 @@ use Rattle.plan_rules.specs.Listing.{event_line, event_lines, end_line}
 use Rattle.plan_text.specs.Appends.{Appends, shown}
 use Rattle.plan_text.specs.Prepends.{Prepends}
 use Rattle.plan_text.proofs.Digits.{hexadecimal_halves}
-use Rattle.plan_text.proofs.Fronts.{one_more, prepend_both, prepend_behind}
+use Rattle.plan_text.proofs.Fronts.{prepend_both, prepend_behind}
 use Rattle.plan_text.proofs.Appending.{append_both}
 
 -- A tick: both halves, and a space behind them.
@@ -27,45 +27,6 @@ pub put_tick_halves : (a b c : List ℕ) (t : SimTime) (end middle r : ℕ) → 
 put_tick_halves a b c t end middle r top h l p q =
     rw (hexadecimal_halves t.hi t.lo top)
     (prepend_behind a c (hexadecimal 16 t.hi ++ hexadecimal 16 t.lo) space end r h l (prepend_both (set a (end - 1) space) b c (hexadecimal 16 t.hi) (hexadecimal 16 t.lo) (end - 1) middle r p q))
-
--- `end` and a space: stored from the last to the first.
-word : (w : List ℕ) (k : ℕ) → k + 4 ≤ length w → drop k (set (set (set (set w (k + 3) 32) (k + 2) 100) (k + 1) 110) k 101) ≡ 101 ∷ 110 ∷ 100 ∷ space ∷ drop (k + 4) w
-word w k l =
-    stored (set (set (set w (k + 3) 32) (k + 2) 100) (k + 1) 110) k 101 (simp length-set (omega arith)) ∙
-    ap (λ (v : List ℕ). 101 ∷ v)
-    (stored (set (set w (k + 3) 32) (k + 2) 100) (k + 1) 110 (simp length-set (omega arith)) ∙
-    ap (λ (v : List ℕ). 110 ∷ v) (rw two (stored (set w (k + 3) 32) (k + 2) 100 (simp length-set (omega arith)) ∙ ap (λ (v : List ℕ). 100 ∷ v) (rw three (stored w (k + 3) 32 (omega arith) ∙ rw four)))))
-  where
-    stored : (u : List ℕ) (i v : ℕ) → i < length u → drop i (set u i v) ≡ v ∷ drop (i + 1) u
-    stored u i v h = let e : i + 1 - 1 ≡ i = omega arith in rw e at (one_more u (i + 1) v (omega arith) (omega arith))
-
-    two : k + 1 + 1 ≡ k + 2
-    two = omega arith
-
-    three : k + 2 + 1 ≡ k + 3
-    three = omega arith
-
-    four : k + 3 + 1 ≡ k + 4
-    four = omega arith
-
-pub put_end_word : (w : List ℕ) (end : ℕ) → 4 ≤ end → end ≤ length w
-    → Prepends w end (101 ∷ 110 ∷ 100 ∷ space ∷ []) (set (set (set (set w (end - 1) 32) (end - 2) 100) (end - 3) 110) (end - 4) 101) (end - 4)
-put_end_word w end h l = record { place = omega arith; stands = from_front }
-  where
-    first : end - 1 ≡ end - 4 + 3
-    first = omega arith
-
-    second : end - 2 ≡ end - 4 + 2
-    second = omega arith
-
-    third : end - 3 ≡ end - 4 + 1
-    third = omega arith
-
-    last : end - 4 + 4 ≡ end
-    last = omega arith
-
-    from_front : drop (end - 4) (set (set (set (set w (end - 1) 32) (end - 2) 100) (end - 3) 110) (end - 4) 101) ≡ 101 ∷ 110 ∷ 100 ∷ space ∷ drop end w
-    from_front = rw (first, second, third) (word w (end - 4) (omega arith) ∙ rw last)
 
 -- The whole of an array that was empty at its end: what stands from r on.
 all_of_it : (a c text : List ℕ) (end r : ℕ) → length a ≤ end → Prepends a end text c r → drop r c ≡ text

@@ -27,6 +27,7 @@ fn put_decimal(line: &mut [u8], end: usize, n: u64) -> usize
 {
     let mut i = end;
     let mut rest = n;
+    // Kept by hand: no library method writes digits from the end, and a text made in front would be copied once more.
     while 10 <= rest {
         i -= 1;
         line[i] = (48 + rest % 10) as u8;
@@ -54,10 +55,8 @@ fn put_half(line: &mut [u8], end: usize, n: u64) -> usize
     ensures { Prepends line.old end (hexadecimal 16 n) line.new result }
 {
     let first = end - 16;
-    let mut i = end;
     let mut rest = n;
-    while first < i {
-        i -= 1;
+    for i in (first..end).rev() {
         line[i] = hex_digit(rest % 16);
         rest /= 16;
     }
@@ -134,11 +133,9 @@ fn put_word(line: &mut [u8], end: usize) -> usize
     requires { (4 ≤ end) × (end ≤ length line.old) }
     ensures { Prepends line.old end (101 ∷ 110 ∷ 100 ∷ space ∷ []) line.new result }
 {
-    line[end - 1] = b' ';
-    line[end - 2] = b'd';
-    line[end - 3] = b'n';
-    line[end - 4] = b'e';
-    end - 4
+    let first = end - 4;
+    line[first..end].copy_from_slice(b"end ");
+    first
 }
 
 // The lines of a batch, in its order: the first `count` records of eight words.
@@ -147,25 +144,20 @@ pub fn put_batch(out: &mut [u8], at: usize, batch: &[u64], count: usize) -> usiz
     ensures { Appends out.old at (event_lines (events_of count batch.now)) out.new result }
 {
     let mut end = at;
-    let mut i: usize = 0;
-    while i < count {
+    for i in 0..count {
         let e = records::record_in(batch, 8 * i);
         end = put_event(out, end, e.destination, e.tick(), e.source);
-        i += 1;
     }
     end
 }
 
-// The bytes from `from` on are zero.
+// The bytes from `from` on are zero. Kept beside words::clear: both are one call of `fill`, and a function
+// over any number type would need a trait for its zero.
 pub fn clear(out: &mut [u8], from: usize)
     requires { from ≤ length out.old }
     ensures { out.new ≡ cleared from (length out.old) out.old }
 {
-    let mut i = from;
-    while i < out.len() {
-        out[i] = 0;
-        i += 1;
-    }
+    out[from..].fill(0);
 }
 
 // Zeros behind the listing, whose end is `at`; nothing but zeros where it does not fit. Whether it does.

@@ -1,11 +1,7 @@
-use Prim.Native.Nat.{◌≤◌, ◌-◌}
 use Rattle.records.specs.Records.{events_of}
 use Rattle.plan_rules.specs.Listing.{event_lines}
 use Rattle.plan_text.specs.Appends.{Appends}
 use Rattle.plan_text.proofs.put_batch.Given as goal
 
 abbrev pub invariant-loop-i : goal.invariant-loop-i
-invariant-loop-i l = (l.i ≤ l.count) × Appends l.initial.out l.at (event_lines (events_of l.i l.batch)) l.out l.end
-
-abbrev pub decreases-loop-i : goal.decreases-loop-i
-decreases-loop-i l = l.count - l.i
+invariant-loop-i l = Appends l.initial.out l.at (event_lines (events_of l.i l.batch)) l.out l.end

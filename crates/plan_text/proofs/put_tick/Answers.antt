@@ -1,12 +1,8 @@
 use native.Mathlib.Omega.{arith}
-use mathlib.Core.Path.{◌∙◌}
 use lib.ListN.{length-set}
 use Rattle.plan_rules.proofs.Texts.{length_hexadecimal}
 use Rattle.plan_text.proofs.Lines.{put_tick_halves}
 use Rattle.plan_text.proofs.put_tick.Goals as goal
-
-pub put_half-middle-requires : goal.put_half-middle-requires
-put_half-middle-requires c = (omega arith, simp length-set (omega arith))
 
 pub put_half-requires : goal.put_half-requires
 put_half-requires c =
@@ -14,12 +10,6 @@ put_half-requires c =
     let q = c.put_half-middle in
     let l = simp length-set at q.auto.line in
     (omega (arith, q.ensures.place, length_hexadecimal 16 e.t.lo), omega (arith, q.ensures.place, length_hexadecimal 16 e.t.lo))
-
-pub shape_of-line : goal.shape_of-line
-shape_of-line c =
-    let q = c.put_half-middle in
-    let p = c.put_half in
-    p.auto.line ∙ simp length-set at q.auto.line
 
 pub returns : goal.returns
 returns c =
