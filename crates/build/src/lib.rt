@@ -108,19 +108,10 @@ pub fn initialize(
     inbound::record_inbound(edges, rows.destinations.len(), n as usize, processes);
     Header {
         n: n as usize,
-        lookahead: lookahead,
+        lookahead,
         edges: rows.destinations.len(),
-        pending: 0,
-        batch: 0,
-        next: 0,
-        gvt: SimTime::ZERO,
-        stored: false,
-        horizon: SimTime::ZERO,
-        budget: 0,
-        used: 0,
         initial: true,
-        running: false,
-        poisoned: false,
+        ..empty_header()
     }
 }
 

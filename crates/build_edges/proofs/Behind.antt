@@ -27,9 +27,6 @@ further n m u w h e =
     rw s at (sym (drop-drop (m - n) n u) ∙ ap (λ (l : List ℕ). drop (m - n) l) e ∙ drop-drop (m - n) n w)
 
 -- One edge: its ends and its lookahead, a word each, and its bound.
-pub length_one : (w : List ℕ) (a b c d e x y hi lo : ℕ) (t : SimTime) (u : List ℕ) → u ≡ put_tick (set (set (set (set w a x) b y) c hi) d lo) e t → length u ≡ length w
-length_one w a b c d e x y hi lo t u p = rw p (length_put _ e t ∙ simp length-set)
-
 module _ (w : List ℕ) (i s d : ℕ) (l : SimDuration) (t : SimTime) (h : 6 * (i + 1) ≤ length w) where
   abbrev ends : List ℕ
   ends = set (set w (6 * i) s) (6 * i + 1) d

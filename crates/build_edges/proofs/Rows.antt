@@ -20,7 +20,6 @@ use Rattle.build_edges.proofs.Behind.{further}
 
 -- The rows before i are written, `at` edges; what is left comes behind them.
 pub record WritingEdges (sources counts ds ws w₀ : List ℕ) (at i : ℕ) (w : List ℕ) : Type 0 where
-  pub within : i ≤ length sources
   pub rest : at + sum (drop i counts) ≡ length ds
   pub edges : Records.edges_of at w ++ Build.edges_of (drop i sources) (drop i counts) (drop at (targets_for ds ws)) ≡ Build.edges_of sources counts (targets_for ds ws)
   pub beyond : drop (6 * length ds) w ≡ drop (6 * length ds) w₀
@@ -28,7 +27,7 @@ pub record WritingEdges (sources counts ds ws w₀ : List ℕ) (at i : ℕ) (w :
 module _ (sources counts ds ws w₀ : List ℕ) (s : Writable sources counts ds ws w₀) where
   pub writing_start : WritingEdges sources counts ds ws w₀ 0 0 w₀
   unfolding tab
-  writing_start = record { within = omega arith; rest = omega (arith, s.used_up); edges = refl; beyond = refl }
+  writing_start = record { rest = omega (arith, s.used_up); edges = refl; beyond = refl }
 
   module _ (at i : ℕ) (w : List ℕ) (g : WritingEdges sources counts ds ws w₀ at i w) where
     -- The row at i, by its parts of the lists.
@@ -67,7 +66,6 @@ module _ (sources counts ds ws w₀ : List ℕ) (s : Writable sources counts ds 
             let l : at + length (row end) ≡ end = rw (length-map (targets_for (part end) (words-part end)) (edge_to (get_or sources i 0)), length_targets (part end) (words-part end) b) part-ends in
             let es : Records.edges_of end u ≡ Records.edges_of at w ++ row end = rw l at a.edges in
             record {
-              within = omega arith;
               rest = omega (arith, g.rest, sum_more counts i (omega (arith, s.paired)));
               edges = rw es (append_assoc (Records.edges_of at w) (row end) _ ∙ ap (λ (l : List Edge). Records.edges_of at w ++ l) (sym opened) ∙ g.edges);
               beyond = further (6 * end) (6 * length ds) u w (omega (arith, row_fits)) (rw l at a.beyond) ∙ g.beyond;

@@ -95,7 +95,6 @@ stamp_low marks d stamp h low x =
 
 -- The destinations before place i passed, and exactly they have the stamp.
 pub record Stamped (n p : ℕ) (ds ws : List ℕ) (stamp : ℕ) (marks : List ℕ) (i : ℕ) : Type 0 where
-  pub within : i ≤ length ds
   pub room : n ≤ length marks
   pub left : first_refusal (destination_rows n p [] (targets_for ds ws)) ≡ first_refusal (destination_rows n p (met i ds) (targets_for (drop i ds) (drop (2 * i) ws)))
   pub seen : (x : ℕ) → eqb (get_or marks x 0) stamp ≡ member x (met i ds)
@@ -107,7 +106,7 @@ module _ (n : ℕ) (source : LpId) (ds ws : List ℕ) (stamp : ℕ) (marks : Lis
 
   pub stamped_none : Unmarked n marks stamp → Stamped n (lp_id_of source) ds ws stamp marks 0
   unfolding member any
-  stamped_none f = record { within = omega arith; room = f.room; left = refl; seen = λ x. ne_eqb (get_or marks x 0) stamp (λ e. omega (arith, f.unmarked x)); low = λ x. omega (arith, f.unmarked x) }
+  stamped_none f = record { room = f.room; left = refl; seen = λ x. ne_eqb (get_or marks x 0) stamp (λ e. omega (arith, f.unmarked x)); low = λ x. omega (arith, f.unmarked x) }
 
   module _ (w : length ws ≡ 2 * length ds) (i : ℕ) (s : Stamped n (lp_id_of source) ds ws stamp marks i) where
     pub stamped_all : length ds ≤ i → row_checked (Ok tt)
@@ -147,7 +146,6 @@ module _ (n : ℕ) (source : LpId) (ds ws : List ℕ) (stamp : ℕ) (marks : Lis
             pub stamped_new : z ≡ false → Stamped n (lp_id_of source) ds ws stamp (set marks d stamp) (i + 1)
             unfolding member any
             stamped_new o = record {
-              within = omega arith;
               room = rw length-set s.room;
               left = opened ∙ at_new n _ _ _ _ (rw e at a) (sym q ∙ t) first-met (rw f at (sym g ∙ o)) ∙ met-more;
               seen = λ x. rw add-one (stamp_seen marks d stamp (omega (arith, s.room)) x ∙ rw (e, s.seen x));
@@ -177,7 +175,6 @@ row_none n counts ts = refl
 
 -- The rows before place i passed, with the targets before `at`, and no mark is above i.
 pub record Turned (n : ℕ) (sources counts ds ws : List ℕ) (marks : List ℕ) (at i : ℕ) : Type 0 where
-  pub within : i ≤ length sources
   pub room : length marks ≡ 64
   pub rest : at + sum (drop i counts) ≡ length ds
   pub left : first_refusal (topology_rows n sources counts (targets_for ds ws)) ≡ first_refusal (topology_rows n (drop i sources) (drop i counts) (drop at (targets_for ds ws)))
@@ -185,7 +182,7 @@ pub record Turned (n : ℕ) (sources counts ds ws : List ℕ) (marks : List ℕ)
 
 module _ (n : ℕ) (sources counts ds ws : List ℕ) where
   pub turned_none : RowsPassed n sources counts ds ws → Turned n sources counts ds ws (replicate 64 0) 0 0
-  turned_none s = record { within = omega arith; room = refl; rest = omega (arith, s.used_up); left = refl; low = noughts 64 }
+  turned_none s = record { room = refl; rest = omega (arith, s.used_up); left = refl; low = noughts 64 }
     where
       noughts : (k x : ℕ) → get_or (replicate k 0) x 0 ≤ 0
       noughts zero x = omega arith
@@ -228,7 +225,6 @@ module _ (n : ℕ) (sources counts ds ws : List ℕ) where
 
           pub turned_sound : r ≡ Ok tt → length after ≡ length marks → Turned n sources counts ds ws after end (i + 1)
           turned_sound v w = record {
-            within = omega arith;
             room = w ∙ t.room;
             rest = omega (arith, t.rest, sum_more counts i (omega (arith, s.paired)));
             left = rw add-one (turned-else ∙ rw v);

@@ -118,7 +118,7 @@ fn check_row(
         if n <= d {
             return Err(TopologyRefusal::UnknownTopologyDestination(source, destination));
         }
-        if destination.eq(source) {
+        if destination == source {
             return Err(TopologyRefusal::SelfLoop(source));
         }
         let k = d as usize;

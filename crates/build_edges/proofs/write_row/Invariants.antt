@@ -1,7 +1,5 @@
-use mathlib.Core.Path.{◌≡◌}
 use mathlib.Core.List.{map}
-use Prim.Native.Nat.{◌≤◌}
-use lib.ListN.{length, take}
+use lib.ListN.{take}
 use Rattle.rules.specs.Build.{edge_to}
 use Rattle.types.specs.Value.{lp_id_of}
 use Rattle.build_topology.specs.Lookaheads.{targets_for}
@@ -9,4 +7,4 @@ use Rattle.build_edges.specs.Written.{WritesRow}
 use Rattle.build_edges.proofs.write_row.Given as goal
 
 abbrev pub invariant-loop-i : goal.invariant-loop-i
-invariant-loop-i l = (l.i ≤ length l.destinations) × (length l.edges ≡ length l.initial.edges) × WritesRow l.at (map (edge_to (lp_id_of l.source)) (take l.i (targets_for l.destinations l.lookaheads))) l.initial.edges l.edges
+invariant-loop-i l = WritesRow l.at (map (edge_to (lp_id_of l.source)) (take l.i (targets_for l.destinations l.lookaheads))) l.initial.edges l.edges

@@ -1,8 +1,6 @@
-use mathlib.Core.Path.{◌≡◌}
-use lib.ListN.{length}
 use Rattle.types.specs.Value.{lp_id_of}
 use Rattle.build_topology.proofs.Decided.{Stamped}
 use Rattle.build_topology.proofs.check_row.Given as goal
 
 abbrev pub invariant-loop-i : goal.invariant-loop-i
-invariant-loop-i l = Stamped l.n (lp_id_of l.source) l.destinations l.lookaheads l.stamp l.marks l.i × (length l.marks ≡ length l.initial.marks)
+invariant-loop-i l = Stamped l.n (lp_id_of l.source) l.destinations l.lookaheads l.stamp l.marks l.i
