@@ -72,8 +72,8 @@ module _ (n L : ℕ) (ids sources counts ds ls : List ℕ) where
   unfolding answer_of_rows unless if◌then◌otherwise◌ missing_row missing_row_in
   row_6 m = by_bool (any (λ p. not (member p sources)) (up_to n)) (λ e. rw (m, e)) (λ e. rw (m, e))
 
-pub orderly : (n : ℕ) (ids : List ℕ) (z u : Bool) → z ≡ (eqb n 0 || ltb 64 n) → z ≡ false → u ≡ rising ltb ids → not u ≡ false → RisingIds n ids
-orderly n ids z u w o v t = record { few = at_most_64 n (sym w ∙ o); rise = sym v ∙ not_false u t }
+pub orderly : (n : ℕ) (ids : List ℕ) (z u : Bool) → z ≡ (eqb n 0 || ltb 64 n) → z ≡ false → u ≡ rising ltb ids → u ≡ true → RisingIds n ids
+orderly n ids z u w o v t = record { few = at_most_64 n (sym w ∙ o); rise = sym v ∙ t }
 
 -- 1 to 4 from the program's tests, one after the other.
 module _ (n L : ℕ) (ids : List ℕ) (z : Bool) (w : z ≡ (eqb n 0 || ltb 64 n)) where
@@ -91,12 +91,12 @@ module _ (n L : ℕ) (ids : List ℕ) (z : Bool) (w : z ≡ (eqb n 0 || ltb 64 n
       d : eqb L 0 ≡ false
       d = sym y ∙ o
 
-      pub unordered : not u ≡ true → ChecksProcesses n L ids (Err P.UnorderedProcesses)
-      unordered e = record { of_setup = λ ss cs ds ls. sym (row-3 n L ids ss cs ds ls a d (sym v ∙ not_true u e)) }
+      pub unordered : u ≡ false → ChecksProcesses n L ids (Err P.UnorderedProcesses)
+      unordered e = record { of_setup = λ ss cs ds ls. sym (row-3 n L ids ss cs ds ls a d (sym v ∙ e)) }
 
-      module _ (t : not u ≡ false) (f : IdMismatch) (g : f ≡ checked_ids n ids) where
+      module _ (t : u ≡ true) (f : IdMismatch) (g : f ≡ checked_ids n ids) where
         e : rising ltb ids ≡ true
-        e = sym v ∙ not_false u t
+        e = sym v ∙ t
 
         mismatch : ltb 0 f.missing || ltb 0 f.unexpected ≡ true → ChecksProcesses n L ids (Err (P.ProcessSetMismatch f.missing f.unexpected))
         unfolding checked_ids
@@ -122,12 +122,12 @@ module _ (n L : ℕ) (ids : List ℕ) (z : Bool) (w : z ≡ (eqb n 0 || ltb 64 n
 
 -- 5 to 10 and 40.
 module _ (n : ℕ) (sources counts ds ws : List ℕ) (x : Bool) (y : RowsWellFormed sources counts ds ws x) where
-  pub malformed : not x ≡ true → ChecksTopology n sources counts ds ws (Err P.MalformedTopology)
-  malformed t = record { of_setup = λ L ids. sym (row_5 n L ids sources counts ds (lookaheads_for ds ws) (not_false _ (sym (y.of_setup n L ids) ∙ not_true x t))) }
+  pub malformed : x ≡ false → ChecksTopology n sources counts ds ws (Err P.MalformedTopology)
+  malformed t = record { of_setup = λ L ids. sym (row_5 n L ids sources counts ds (lookaheads_for ds ws) (not_false _ (sym (y.of_setup n L ids) ∙ t))) }
 
-  module _ (t : not x ≡ false) where
+  module _ (t : x ≡ true) where
     fit : RowsWellFormed sources counts ds ws true
-    fit = rw (not_false x t) at y
+    fit = rw t at y
 
     pub rows_orderly : n ≤ 64 → RisingIds n sources
     rows_orderly b = fit_orderly n sources counts ds ws b fit

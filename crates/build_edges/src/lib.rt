@@ -46,7 +46,8 @@ fn write_row(destinations: &[u32], lookaheads: &[u64], source: LpId, edges: &mut
     }
 }
 
-// Edge i, behind those before it. "Each edge has a bound, at first L": its own lookahead.
+// Edge i, behind those before it. "Each edge has a bound, at first L": its own lookahead. Kept as words
+// of one list: a runtime holds them so in fixed memory, and WritesEdges speaks of its words.
 fn put_edge(edges: &mut [u64], i: usize, source: LpId, destination: LpId, lookahead: SimDuration)
     requires { 6 * (i + 1) ≤ length edges.old }
     ensures { WritesRow i (new_edge (lp_id_of source) (lp_id_of destination) (duration_of lookahead) ∷ []) edges.old edges.new }

@@ -206,21 +206,19 @@ no_row_off p k xs r = no_row_more p xs (up_from (suc p) k) ∙ rw (member_none p
 
 -- 6: the processes below p have their rows, each at its place.
 pub record Rowed (n : ℕ) (sources : List ℕ) (p : ℕ) : Type 0 where
-  pub within : p ≤ n
   pub rise : Rises p (drop p sources)
   pub left : missing_row n sources ≡ missing_row_in (drop p sources) (up_from p (n - p))
 
 module _ (n : ℕ) (sources : List ℕ) where
   pub rowed_none : RisingIds n sources → Rowed n sources 0
   unfolding missing_row up_to
-  rowed_none o = record { within = omega arith; rise = rises sources o.rise; left = let e : n - 0 ≡ n = omega arith in rw e }
+  rowed_none o = record { rise = rises sources o.rise; left = let e : n - 0 ≡ n = omega arith in rw e }
 
   pub rowed_on : (p : ℕ) → p < n → starts_with p (drop p sources) ≡ true → Rowed n sources p → Rowed n sources (p + 1)
   rowed_on p l h i =
       let xs = drop p sources in
       let d : drop 1 xs ≡ drop (p + 1) sources = drop-drop 1 p sources in
       record {
-        within = omega arith;
         rise = rw (← d, add-one) (rises_on p xs i.rise h);
         left = i.left ∙ rw (next n p l, ← d) (no_row_on p (n - (p + 1)) xs h ∙ rw (add-one p));
       }

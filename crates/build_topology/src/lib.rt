@@ -26,7 +26,8 @@ pub enum TopologyRefusal {
     InvalidEdgeLookahead,
 }
 
-// The rows as a host lends them: a count for each source, and two words of lookahead for each destination.
+// The rows as a host lends them: a count for each source, and two words of lookahead for each
+// destination. Kept as lists side by side: so C lends them (include/dorrezubi.h).
 #[derive(Clone, Copy)]
 pub struct Rows<'a> {
     pub sources: &'a [u32],

@@ -17,7 +17,7 @@ returns-in-Some c = search entry_missing depth 1
 pub returns-in_err-check : goal.returns-in_err-check
 returns-in_err-check c =
     let p = err_from_is_err_and c.from_residual.result c.from_residual.ensures.1 in
-    rw p.1 (rows_refused _ _ _ _ _ _ c.is_well_formed.ensures c.if-not-is_well_formed.false-raw _ c.least_without_row.ensures c.in_default.is _ c.check.ensures _ _ c.in_err-check.was p.2)
+    rw p.1 (rows_refused _ _ _ _ _ _ c.is_well_formed.ensures c.if-not-is_well_formed.false _ c.least_without_row.ensures c.in_default.is _ c.check.ensures _ _ c.in_err-check.was p.2)
 
 pub returns : goal.returns
-returns c = rows_passed _ _ _ _ _ _ c.is_well_formed.ensures c.if-not-is_well_formed.false-raw _ c.least_without_row.ensures c.in_default.is _ c.check.ensures c.in_ok-check.was
+returns c = rows_passed _ _ _ _ _ _ c.is_well_formed.ensures c.if-not-is_well_formed.false _ c.least_without_row.ensures c.in_default.is _ c.check.ensures c.in_ok-check.was
