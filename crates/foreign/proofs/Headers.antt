@@ -1,11 +1,11 @@
 -- The tests of a header: its run, and what is known where it passes.
 use mathlib.Core.Path.{◌≡◌, sym, ◌∙◌}
-use mathlib.Core.Bool.{Bool, true, false, not, and-false, and-true, or-false}
+use mathlib.Core.Bool.{Bool, true, false, not, ◌||◌, and-false, and-true, or-false, or_assoc}
 use Prim.Native.Nat.{ℕ, ◌*◌, ◌≤◌}
 use native.Mathlib.Omega.{arith}
-use lib.Dec.{leb, ltb}
+use lib.Dec.{leb, ltb, eqb}
 use borrow.Author.Tests.{ltb-true, ltb-false, le-leb, lt-leb}
-use Rattle.types.specs.Value.{ticks_of}
+use Rattle.types.specs.Value.{ticks_of, duration_of}
 use Rattle.rules.specs.Base.{any, any_of}
 use Rattle.rules.specs.State.{max_tick}
 use Rattle.rules.specs.Foreign.{horizon_is_max, is_unset}
@@ -15,6 +15,16 @@ use Rattle.rules.proofs.Shape.{alls}
 use Rattle.state.specs.declared.Header.{Header}
 use Rattle.state.specs.View.{stored_of}
 use Rattle.foreign.specs.Tests.{size_tests, count_tests, stored_in, run_tests, header_tests}
+
+-- Both tests of the process count in one answer x.
+module _ (h : Header) (x : Bool) (e : x ≡ eqb h.n 0 || ltb 64 h.n) where
+  pub count_wrong : x ≡ true → true ≡ any_of (size_tests h)
+  unfolding any_of any
+  count_wrong t = rw (← or_assoc (eqb h.n 0) (ltb 64 h.n) (eqb (duration_of h.lookahead) 0 || false), ← e, t)
+
+  pub count_right : x ≡ false → (r : Bool) → r ≡ eqb (duration_of h.lookahead) 0 → r ≡ any_of (size_tests h)
+  unfolding any_of any
+  count_right t r q = rw (← or_assoc (eqb h.n 0) (ltb 64 h.n) (eqb (duration_of h.lookahead) 0 || false), ← e, t, or-false) q
 
 -- "a stored horizon of 2^128 - 1" as the program tests it.
 not_below : (h m : ℕ) → not (ltb h m) ≡ leb m h

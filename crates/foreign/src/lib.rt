@@ -19,10 +19,7 @@ use types::{MAX_EDGES, MAX_PENDING, MAX_PROCESSES, SimTime};
 fn invalid_size(head: Header) -> bool
     ensures { result ≡ any_of (size_tests head) }
 {
-    if head.n == 0 {
-        return true;
-    }
-    if MAX_PROCESSES < head.n as u64 {
+    if types::invalid_process_count(head.n as u64) {
         return true;
     }
     let lookahead = head.lookahead;
