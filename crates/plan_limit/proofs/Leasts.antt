@@ -1,11 +1,8 @@
 -- The least of a table of ticks, one after the other.
 use Prim.Native.Nat.{ℕ, ◌+◌, ◌-◌, ◌≤◌, ◌<◌, min}
-use mathlib.Core.Path.{◌≡◌, sym, ap, ◌∙◌}
-use mathlib.Core.Bool.{Bool, true, false}
+use mathlib.Core.Path.{◌≡◌, ap}
 use mathlib.Core.List.{List}
 use native.Mathlib.Omega.{arith}
-use lib.Dec.{ltb}
-use borrow.Author.Tests.{ltb-true, ltb-false}
 use Rattle.rules.specs.Build.{least_lookahead}
 use Rattle.rules.specs.Refresh.{least}
 use Rattle.words.specs.Words.{tab, tick_of, ticks_in}
@@ -34,19 +31,9 @@ module _ (w : List ℕ) (n : ℕ) where
   unfolding least_from least
   next_one m i x h e = rw (tab_next (tick_of w) i n h) at e
 
-  -- t is the one at place i: it is less than m, or it is not.
-  module _ (m i t x : ℕ) (h : i < n) (a : t ≡ tick_of w i) (b : Bool) (is : b ≡ ltb t m) (e : least_from w n m i ≡ x) where
-    pub least_new : b ≡ true → least_from w n t (i + 1) ≡ x
-    least_new y =
-        let l : t < m = ltb-true t m (sym is ∙ y) in
-        let s : t ≡ min m (tick_of w i) = omega arith in
-        ap (λ (k : ℕ). least_from w n k (i + 1)) s ∙ next_one m i x h e
-
-    pub least_kept : b ≡ false → least_from w n m (i + 1) ≡ x
-    least_kept y =
-        let l : m ≤ t = ltb-false t m (sym is ∙ y) in
-        let s : m ≡ min m (tick_of w i) = omega arith in
-        ap (λ (k : ℕ). least_from w n k (i + 1)) s ∙ next_one m i x h e
+  -- r is the lesser of m and t, the one at place i.
+  pub least_more : (m i t r x : ℕ) → i < n → t ≡ tick_of w i → r ≡ min m t → least_from w n m i ≡ x → least_from w n r (i + 1) ≡ x
+  least_more m i t r x h a s e = rw (s, a) (next_one m i x h e)
 
   pub least_end : (m i : ℕ) → n ≤ i → least_from w n m i ≡ m
   unfolding least_from least

@@ -20,13 +20,8 @@ pub fn least_lookahead(lookaheads: &[u64], count: usize, plan: SimDuration) -> S
         return plan;
     }
     let mut least = words::tick_in(lookaheads, 0);
-    let mut i: usize = 1;
-    while i < count {
-        let next = words::tick_in(lookaheads, 2 * i);
-        if next.lt(least) {
-            least = next;
-        }
-        i += 1;
+    for i in 1..count {
+        least = least.min(words::tick_in(lookaheads, 2 * i));
     }
     SimDuration::from_ticks(least.hi, least.lo)
 }

@@ -40,12 +40,6 @@ pub struct PlanHeader {
     pub budget: u64,
 }
 
-fn lesser(a: usize, b: usize) -> usize
-    ensures { result ≡ min a b }
-{
-    if a < b { a } else { b }
-}
-
 // The id in the six bits at `at`.
 pub fn id_at(s: &[u8], at: usize) -> LpId
     requires { (length s.now ≤ 16384) × (at + 6 ≤ length s.now * 8) }
@@ -67,7 +61,8 @@ pub fn duration_at(s: &[u8], at: usize) -> SimDuration
     requires { (length s.now ≤ 16384) × (at + 128 ≤ length s.now * 8) }
     ensures { duration_of result ≡ value_of (take 128 (drop at (stream s.now))) }
 {
-    SimDuration::from_ticks(bits::read(s, at, 64), bits::read(s, at + 64, 64))
+    let tick = tick_at(s, at);
+    SimDuration::from_ticks(tick.hi, tick.lo)
 }
 
 // Up to eight bytes in a word, the first highest, zeros behind them.
@@ -86,8 +81,8 @@ pub fn payload_at(s: &[u8], at: usize, len: usize) -> Payload
     requires { (length s.now ≤ 16384) × (at + len * 8 ≤ length s.now * 8) }
     ensures { PayloadRead (stream s.now) at len result }
 {
-    let first = lesser(len, 8);
-    let second = lesser(len - first, 8);
+    let first = len.min(8);
+    let second = (len - first).min(8);
     Payload {
         hi: payload_word(s, at, first),
         lo: payload_word(s, at + first * 8, second),
@@ -110,7 +105,7 @@ pub fn message_at(s: &[u8], at: usize) -> MessageAt
         payload_lo: payload.lo,
     };
     MessageAt {
-        message: message,
+        message,
         next: at + 145 + len * 8,
     }
 }
@@ -120,12 +115,11 @@ pub fn put_emission(w: &mut [u64], at: usize, e: Emission)
     requires { at + 8 ≤ length w.old }
     ensures { Puts w.old at e w.new }
 {
-    let tick = e.tick;
     w[at] = e.emitter.to_word();
     w[at + 1] = e.source.to_word();
     w[at + 2] = e.destination.to_word();
-    w[at + 3] = tick.hi;
-    w[at + 4] = tick.lo;
+    w[at + 3] = e.tick.hi;
+    w[at + 4] = e.tick.lo;
     w[at + 5] = e.len;
     w[at + 6] = e.payload_hi;
     w[at + 7] = e.payload_lo;
@@ -136,22 +130,18 @@ pub fn emission_to(s: &[u8], at: usize, emitter: LpId, out: &mut [u64], slot: us
     requires { (length s.now ≤ 16384) × IsGot (message.get (drop at (stream s.now))) × (8 * slot + 8 ≤ length out.old) }
     ensures { EmissionWritten (stream s.now) at emitter out.old slot out.new result }
 {
-    let read = message_at(s, at);
-    let m = read.message;
-    let source = m.source;
-    let destination = m.destination;
-    let tick = m.tick;
+    let MessageAt { message, next } = message_at(s, at);
     let e = Emission {
-        emitter: emitter,
-        source: source,
-        destination: destination,
-        tick: tick,
-        len: m.len,
-        payload_hi: m.payload_hi,
-        payload_lo: m.payload_lo,
+        emitter,
+        source: message.source,
+        destination: message.destination,
+        tick: message.tick,
+        len: message.len,
+        payload_hi: message.payload_hi,
+        payload_lo: message.payload_lo,
     };
     put_emission(out, 8 * slot, e);
-    read.next
+    next
 }
 
 // The counted list of messages that stands at `at` becomes emissions from emission `from` on. Returns
@@ -163,10 +153,8 @@ pub fn emissions_to(s: &[u8], at: usize, emitter: LpId, out: &mut [u64], from: u
     let n = bits::read(s, at, 10) as usize;
     let end = from + n;
     let mut p = at + 10;
-    let mut i = from;
-    while i < end {
+    for i in from..end {
         p = emission_to(s, p, emitter, out, i);
-        i += 1;
     }
     end
 }

@@ -4,4 +4,4 @@ use Rattle.plan_reader.proofs.Emissions.{written}
 
 pub returns : goal.returns
 returns c =
-    written _ _ _ _ _ _ c.message_at-read.result c.message_at-read.ensures c.put_emission.ensures
+    written _ _ _ _ _ _ c.message_at-next.result c.message_at-next.ensures c.put_emission.ensures

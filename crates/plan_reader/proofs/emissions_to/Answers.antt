@@ -20,25 +20,20 @@ overflow_add-p c =
     omega arith
 
 pub loop-i-init : goal.loop-i-init
-loop-i-init c = (progress_start _ _ _ _ _, omega arith)
+loop-i-init c = progress_start _ _ _ _ _
 
 pub emission_to-p-requires : goal.emission_to-p-requires
 emission_to-p-requires c =
     let h = can_hold c.args.s.now c.args.at c.args.from _ c.requires.1 c.read-n.result c.read-n.ensures in
-    (omega arith, can_go_on c.args.s.now c.args.at c.args.from _ c.requires.1 c.read-n.result c.read-n.ensures c.loop-i.invariant.0 c.loop-i-test.true, omega (arith, c.loop-i.invariant.0.size))
-
-pub overflow_add-i : goal.overflow_add-i
-overflow_add-i c =
-    let h = can_hold c.args.s.now c.args.at c.args.from _ c.requires.1 c.read-n.result c.read-n.ensures in
-    omega arith
+    (omega arith, can_go_on c.args.s.now c.args.at c.args.from _ c.requires.1 c.read-n.result c.read-n.ensures c.loop-i.invariant c.loop-i-test.true, omega (arith, c.loop-i.invariant.size))
 
 pub loop-i-preserved : goal.loop-i-preserved
 loop-i-preserved c =
-    (progress_more (stream c.args.s.now) c.args.at c.args.emitter _ c.args.from c.loop-i.invariant.0 c.read-n.result c.read-n.ensures c.loop-i-test.true c.emission_to-p.ensures, omega arith)
+    progress_more (stream c.args.s.now) c.args.at c.args.emitter _ c.args.from c.loop-i.invariant c.read-n.result c.read-n.ensures c.loop-i-test.true c.emission_to-p.ensures
 
 pub shape_of-out : goal.shape_of-out
-shape_of-out c = c.loop-i.invariant.0.size
+shape_of-out c = c.loop-i.invariant.size
 
 pub returns : goal.returns
 returns c =
-    progress_end (stream c.args.s.now) c.args.at c.args.emitter _ c.args.from c.loop-i.invariant.0 c.read-n.result c.read-n.ensures (omega arith)
+    progress_end (stream c.args.s.now) c.args.at c.args.emitter _ c.args.from c.loop-i.invariant c.read-n.result c.read-n.ensures (omega arith)

@@ -8,4 +8,4 @@ use Rattle.plan_reader.proofs.Values.{payload_read}
 pub returns : goal.returns
 returns c =
     let a = c.args in
-    payload_read (stream a.s.now) a.at a.len _ _ _ _ (rw length_stream (omega arith)) c.lesser-first.ensures c.lesser-second.ensures c.payload_word.ensures c.payload_word-2.ensures
+    payload_read (stream a.s.now) a.at a.len _ _ _ _ (rw length_stream (omega arith)) c.min-first.ensures c.min-second.ensures c.payload_word.ensures c.payload_word-2.ensures
