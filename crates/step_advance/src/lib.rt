@@ -8,7 +8,7 @@ ghost use Rattle.step_advance.specs.Refreshes.{CanRefresh, Refreshes};
 ghost use Rattle.step_advance.specs.Advances.{CanAdvance, Advances, BudgetSpent};
 
 use state::Header;
-use types::{Added, SimDuration, SimTime};
+use types::{SimDuration, SimTime};
 
 // GVT after a refresh, and whether a local horizon rose.
 #[derive(Clone, Copy)]
@@ -30,11 +30,7 @@ pub fn exclusive_horizon(horizon: SimTime) -> SimTime
     requires { ticks_of horizon < 2 ^ 128 - 1 }
     ensures { ticks_of result ≡ suc (ticks_of horizon) }
 {
-    let one = SimDuration::one();
-    match horizon.checked_add(one) {
-        Added::Sum(t) => t,
-        Added::Overflow => horizon,
-    }
+    horizon.checked_add(SimDuration::one()).unwrap_or(horizon)
 }
 
 // The local horizons of n processes rise to what record and first ticks say, and GVT to the least of the
@@ -51,9 +47,7 @@ pub fn refresh(
     ensures { Refreshes n (ticks_of gvt) (ticks_of top) processes.old first.now result processes.new }
 {
     let raised = frontiers::raise_horizons(processes, n, first, top);
-    let tick = raised.tick;
-    let horizon = raised.horizon;
-    let floor = tick.min(horizon.one_less());
+    let floor = raised.tick.min(raised.horizon.one_less());
     Refreshed {
         gvt: gvt.max(floor),
         rose: raised.rose,
@@ -85,12 +79,12 @@ pub fn advance(
 {
     let refreshed = refresh(head.n, head.gvt, processes, first, top);
     let raised = frontiers::raise_bounds(edges, head.edges, first, head.n, processes, top);
-    let mut h = head;
-    let gvt = refreshed.gvt;
-    h.gvt = gvt;
     Advanced {
-        head: h,
-        raised: raised,
-        rose: frontiers::either(0 < raised, refreshed.rose),
+        head: Header {
+            gvt: refreshed.gvt,
+            ..head
+        },
+        raised,
+        rose: 0 < raised || refreshed.rose,
     }
 }
