@@ -7,10 +7,10 @@ ghost use Rattle.std.specs.Prelude.{◌≡◌, ◌≤◌, Err};
 ghost use Rattle.types.specs.Value.{duration_of};
 ghost use Rattle.build_topology.specs.Checks.{refusal_of};
 ghost use Rattle.build.specs.Checks.{answer_of, answer_for, ChecksProcesses, ChecksTopology, ChecksBuild};
-ghost use Rattle.build.specs.Initialized.{CanInitialize, Initializes, empty_header};
+ghost use Rattle.build.specs.Initialized.{CanInitialize, Initializes, empty_header, empty_runtime};
 
 use build_topology::{Rows, TopologyRefusal};
-use state::Header;
+use state::{Header, Runtime};
 use types::{LpId, SimDuration, SimTime};
 
 // Why build refuses: its rows' values come with each.
@@ -134,5 +134,18 @@ pub fn empty_header() -> Header
         initial: false,
         running: false,
         poisoned: false,
+    }
+}
+
+// The state of a refused build: all zeros.
+pub fn empty_runtime() -> Runtime
+    ensures { result ≡ empty_runtime }
+{
+    Runtime {
+        edges: [0; 3072],
+        pending: [0; 4096],
+        processes: [0; 256],
+        batch: [0; 512],
+        head: empty_header(),
     }
 }
