@@ -1,47 +1,36 @@
--- Loops over lists of numbers: whether they fall, and one stored behind the others.
-use mathlib.Core.Path.{◌≡◌, refl, ap, ◌∙◌}
-use mathlib.Core.Bool.{true, false, ◌&&◌}
+-- Lists of numbers: whether they fall, and one stored behind the others.
+use mathlib.Core.Path.{◌≡◌, refl, sym, ap, ◌∙◌}
+use mathlib.Core.Bool.{Bool, true, false}
 use mathlib.Core.List.{List, [], ◌∷◌, ◌++◌}
-use Prim.Native.Nat.{ℕ, zero, suc, ◌+◌, ◌-◌, ◌≤◌, ◌<◌}
+use Prim.Native.Nat.{ℕ, zero, suc, ◌+◌, ◌≤◌, ◌<◌}
 use native.Mathlib.Omega.{arith}
 use native.Mathlib.Numerals.{add-one}
 use lib.Dec.{leb}
-use lib.ListN.{length, take, drop, get_or, set}
+use lib.ListN.{length, take, get_or, set}
 use lib.Seq.{take-suc-set}
 use borrow.Author.Tests.{le-leb, lt-leb}
+use Rattle.std.specs.Bool.{MatchBool}
+use Rattle.std.specs.List.Sorted.{IsNonDecreasing}
+use Rattle.rules.proofs.Tests.{by_bool}
 use Rattle.rules.specs.Base.{up_from, up_to, rising}
 
--- What is left of the list, from the number before place i on.
-falls_more : (xs : List ℕ) (i : ℕ) → suc i < length xs → rising leb (drop i xs) ≡ leb (get_or xs i 0) (get_or xs (suc i) 0) && rising leb (drop (suc i) xs)
+-- Whether each number is at least the one before it, as is_sorted answers it.
+rising_all : (xs : List ℕ) → ((k : ℕ) → suc k < length xs → get_or xs k 0 ≤ get_or xs (suc k) 0) → rising leb xs ≡ true
 unfolding rising
-falls_more [] i h = absurd (omega arith)
-falls_more (x ∷ []) i h = absurd (omega arith)
-falls_more (x ∷ y ∷ ys) zero h = refl
-falls_more (x ∷ y ∷ ys) (suc i) h = falls_more (y ∷ ys) i (omega arith)
+rising_all [] h = refl
+rising_all (x ∷ []) h = refl
+rising_all (x ∷ y ∷ ys) h = rw (le-leb x y (h 0 (omega arith))) (rising_all (y ∷ ys) (λ k l. h (suc k) (omega arith)))
 
-falls_last : (xs : List ℕ) (i : ℕ) → length xs ≤ suc i → rising leb (drop i xs) ≡ true
+rising_stops : (xs : List ℕ) (k : ℕ) → suc k < length xs → get_or xs (suc k) 0 < get_or xs k 0 → rising leb xs ≡ false
 unfolding rising
-falls_last [] zero h = refl
-falls_last [] (suc i) h = refl
-falls_last (x ∷ []) zero h = refl
-falls_last (x ∷ y ∷ ys) zero h = absurd (omega arith)
-falls_last (x ∷ xs) (suc i) h = falls_last xs i (omega arith)
+rising_stops [] k l h = absurd (omega arith)
+rising_stops (x ∷ []) k l h = absurd (omega arith)
+rising_stops (x ∷ y ∷ ys) zero l h = rw (lt-leb x y h)
+rising_stops (x ∷ y ∷ ys) (suc k) l h = by_bool (leb x y) (λ e. rw e (rising_stops (y ∷ ys) k (omega arith) h)) (λ e. rw e)
 
-module _ (xs : List ℕ) where
-  pub falls_here : (i : ℕ) → 1 ≤ i → i < length xs → get_or xs i 0 < get_or xs (i - 1) 0 → rising leb (drop (i - 1) xs) ≡ false
-  falls_here zero o h l = absurd (omega arith)
-  falls_here (suc i) o h l = let e : suc i - 1 ≡ i = omega arith in rw e (falls_more xs i h ∙ rw (lt-leb (get_or xs i 0) (get_or xs (suc i) 0) (rw e at l)))
-
-  pub falls_later : (i : ℕ) → 1 ≤ i → i < length xs → get_or xs (i - 1) 0 ≤ get_or xs i 0 → rising leb (drop (i - 1) xs) ≡ rising leb (drop (i + 1 - 1) xs)
-  falls_later zero o h l = absurd (omega arith)
-  falls_later (suc i) o h l =
-      let e : suc i - 1 ≡ i = omega arith in
-      let f : suc i + 1 - 1 ≡ suc i = omega arith in
-      rw (e, f) (falls_more xs i h ∙ rw (le-leb (get_or xs i 0) (get_or xs (suc i) 0) (rw e at l)))
-
-  pub falls_nowhere : (i : ℕ) → 1 ≤ i → length xs ≤ i → rising leb (drop (i - 1) xs) ≡ true
-  falls_nowhere zero o h = absurd (omega arith)
-  falls_nowhere (suc i) o h = let e : suc i - 1 ≡ i = omega arith in rw e (falls_last xs i h)
+pub rising_answer : (xs : List ℕ) (r : Bool) → MatchBool r (IsNonDecreasing xs) ((k : ℕ) × (k + 1 < length xs) × ((d : ℕ) → get_or xs (k + 1) d < get_or xs k d)) → r ≡ rising leb xs
+rising_answer xs true h = sym (rising_all xs (λ k l. h k (suc k) 0 (omega arith) l))
+rising_answer xs false (k, l, h) = sym (rising_stops xs k (rw add-one at l) (rw add-one at (h 0)))
 
 -- A number stored behind the first i.
 pub one_behind : (w xs : List ℕ) (i v : ℕ) → i < length w → take i w ≡ xs → take (i + 1) (set w i v) ≡ xs ++ (v ∷ [])

@@ -46,9 +46,6 @@ all_ahead s (suc k) =
 pub record Stored (s : List ℕ) (i : ℕ) (w : List ℕ) : Type 0 where
   pub there : (k : ℕ) → k < i → tick_of w k ≡ lookahead_at s k
 
-pub stored_none : (s w : List ℕ) → Stored s 0 w
-stored_none s w = record { there = λ k h. absurd (omega arith) }
-
 pub stored_more : (s : List ℕ) (i : ℕ) (w u : List ℕ) (t : SimTime) (v : ℕ) → 2 * i + 2 ≤ length w → ticks_of t ≡ v → v ≡ value_of (take 128 (drop (349 + 140 * i) (stream s))) → u ≡ put_tick w (2 * i) t → Stored s i w → Stored s (i + 1) u
 unfolding lookahead_at
 stored_more s i w u t v room a b e p = record {

@@ -1,14 +1,14 @@
 -- Edges counted by source, and rows written from the counts.
-use mathlib.Core.Path.{◌≡◌, refl, sym, ap, ◌∙◌, subst}
-use mathlib.Core.Bool.{Bool, true, false, not}
-use mathlib.Core.List.{List, [], ◌∷◌, ◌++◌, map, append-nil, append_assoc}
+use mathlib.Core.Path.{◌≡◌, refl, sym, ap, ◌∙◌}
+use mathlib.Core.Bool.{Bool, true, false}
+use mathlib.Core.List.{List, [], ◌∷◌, ◌++◌, map, append_assoc}
 use Prim.Native.Nat.{ℕ, zero, suc, ◌+◌, ◌≤◌, ◌<◌}
 use native.Mathlib.Omega.{arith}
 use native.Mathlib.Numerals.{add-one}
 use lib.Dec.{eqb}
 use lib.ListN.{length, take, get_or, set, length-set, length-append, get_or-replicate, replicate}
-use lib.Seq.{take-suc, take-suc-set, take_all, length-take-le, get_or-set_same, get_or-set_other}
-use borrow.Author.Tests.{eqb-true, eqb-false, eq-eqb, ne_eqb, lt-ltb, le-ltb}
+use lib.Seq.{take-suc, length-take-le, get_or-set_same, get_or-set_other}
+use borrow.Author.Tests.{eqb-true, eqb-false, eq-eqb, ne_eqb}
 use Rattle.rules.specs.Base.{if◌then◌otherwise◌, count}
 use Rattle.rules.proofs.Tests.{by_bool}
 use Rattle.rules.proofs.Lists.{All}
@@ -59,37 +59,6 @@ module _ (from table : List ℕ) (i : ℕ) (h : i < length from) (t : Tallies (t
 
           other : (x ≡ get_or from i 0 → ⊥) → count (eqb x) (take i from) + (if eqb x (get_or from i 0) then 1 otherwise 0) ≡ count (eqb x) (take i from)
           other f = unfold if◌then◌otherwise◌ in (rw (ne_eqb x (get_or from i 0) f) (omega arith))
-
-pub tally_end : (from table : List ℕ) (i : ℕ) → length from ≤ i → Tallies (take i from) table → Tallies from table
-tally_end from table i h t = subst (λ (xs : List ℕ). Tallies xs table) (take_all i from h) t
-
--- One row.
-pub has_row_holds : (n q k : ℕ) → q < n → true ≡ has_row n q k
-unfolding has_row
-has_row_holds n q k h = rw (lt-ltb q n h)
-
-pub has_row_edges : (n q k : ℕ) → n ≤ q → (r : Bool) → r ≡ not (eqb k 0) → r ≡ has_row n q k
-unfolding has_row
-has_row_edges n q k h r e = rw (le-ltb q n h) e
-
-module _ (n q k : ℕ) (sources counts : List ℕ) (r : ℕ) where
-  pub row_put : has_row n q k ≡ true → r < length sources → r < length counts → PutsRows sources counts r (row_if (has_row n q k) q k) (set sources r q) (set counts r k) (r + 1)
-  row_put t a b = rw t (record {
-    same_sources = length-set sources r q;
-    same_counts = length-set counts r k;
-    many = refl;
-    new_sources = rw (add-one, take-suc-set sources r q a);
-    new_counts = rw (add-one, take-suc-set counts r k b);
-  })
-
-  pub row_none : has_row n q k ≡ false → PutsRows sources counts r (row_if (has_row n q k) q k) sources counts r
-  row_none t = rw t (record {
-    same_sources = refl;
-    same_counts = refl;
-    many = omega arith;
-    new_sources = sym (append-nil (take r sources));
-    new_counts = sym (append-nil (take r counts));
-  })
 
 -- Rows, and more behind them.
 map_both : {A : Type 0} (f : A → ℕ) (xs ys : List A) → map f (xs ++ ys) ≡ map f xs ++ map f ys

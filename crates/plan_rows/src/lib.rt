@@ -17,12 +17,10 @@ pub fn read_edges(s: &[u8], count: usize, sources: &mut [u32], destinations: &mu
     requires count_in_bounds_2 { (count ≤ length sources.old) × (count ≤ length destinations.old) }
     ensures { ReadsEdges s.now count sources.new destinations.new }
 {
-    let mut i: usize = 0;
-    while i < count {
+    for i in 0..count {
         let e = bits::read(s, 337 + 140 * i, 12);
         sources[i] = (e / 64) as u32;
         destinations[i] = (e % 64) as u32;
-        i += 1;
     }
 }
 
@@ -33,11 +31,9 @@ pub fn read_lookaheads(s: &[u8], count: usize, lookaheads: &mut [u64])
     requires count_in_bounds_2 { 2 * count ≤ length lookaheads.old }
     ensures { ReadsLookaheads s.now count lookaheads.new }
 {
-    let mut i: usize = 0;
-    while i < count {
+    for i in 0..count {
         let lookahead = plan_reader::duration_at(s, 349 + 140 * i);
         words::put_tick(lookaheads, 2 * i, SimTime::after_zero(lookahead));
-        i += 1;
     }
 }
 
@@ -45,14 +41,7 @@ pub fn read_lookaheads(s: &[u8], count: usize, lookaheads: &mut [u64])
 pub fn never_fall(sources: &[u32]) -> bool
     ensures { result ≡ rising leb sources.now }
 {
-    let mut i: usize = 1;
-    while i < sources.len() {
-        if sources[i] < sources[i - 1] {
-            return false;
-        }
-        i += 1;
-    }
-    true
+    sources.is_sorted()
 }
 
 // The ids 0 to n - 1.
@@ -60,17 +49,9 @@ pub fn put_ids(ids: &mut [u32], n: usize)
     requires { (n ≤ 64) × (n ≤ length ids.old) }
     ensures { take n ids.new ≡ up_to n }
 {
-    let mut i: usize = 0;
-    while i < n {
+    for i in 0..n {
         ids[i] = i as u32;
-        i += 1;
     }
-}
-
-fn to_usize(x: u32) -> usize
-    ensures { result ≡ x }
-{
-    x as usize
 }
 
 // How many edges each source has.
@@ -78,23 +59,17 @@ fn tally(from: &[u32], table: &mut [u64])
     requires { ((i : ℕ) → get_or from.now i 0 < 64) × Tallies [] table.old }
     ensures { Tallies from.now table.new }
 {
-    let mut i: usize = 0;
-    while i < from.len() {
-        let q = to_usize(from[i]);
-        let k = table[q];
-        table[q] = k + 1;
-        i += 1;
+    for source in from {
+        table[*source as usize] += 1;
     }
 }
 
 // Whether q has a row: it is a process, or it has edges.
+#[tactic(auto, unfolding(crate::specs::Rows::has_row))]
 fn has_row(n: usize, q: usize, k: u64) -> bool
     ensures { result ≡ has_row n q k }
 {
-    if q < n {
-        return true;
-    }
-    k != 0
+    q < n || k != 0
 }
 
 // q's row, if it has one, behind the first r; how many there are then.
@@ -116,11 +91,8 @@ fn write_rows(n: usize, table: &[u64], sources: &mut [u32], counts: &mut [u64]) 
     ensures { PutsRows sources.old counts.old 0 (table_rows n table.now 64) sources.new counts.new result }
 {
     let mut r: usize = 0;
-    let mut q: usize = 0;
-    while q < 64 {
-        let k = table[q];
-        r = put_row(n, q, k, sources, counts, r);
-        q += 1;
+    for q in 0..64 {
+        r = put_row(n, q, table[q], sources, counts, r);
     }
     r
 }

@@ -1,10 +1,6 @@
-use Prim.Native.Nat.{◌-◌, ◌≤◌}
-use lib.ListN.{length, take}
+use lib.ListN.{take}
 use Rattle.plan_rows.specs.Rows.{Tallies}
 use Rattle.plan_rows.proofs.tally.Given as goal
 
-abbrev pub invariant-loop-i : goal.invariant-loop-i
-invariant-loop-i l = (l.i ≤ length l.from) × Tallies (take l.i l.from) l.table
-
-abbrev pub decreases-loop-i : goal.decreases-loop-i
-decreases-loop-i l = length l.from - l.i
+abbrev pub invariant-loop-source : goal.invariant-loop-source
+invariant-loop-source l = Tallies (take l.source-index l.from) l.table
