@@ -1,8 +1,8 @@
 // What is asked of the edges of a state, in one pass over flat words, in any order of the edges. Which
 // pairs were seen stands in a table of 64 words: bit b of word a, for an edge from a to b.
 //
-// An edge is six words (specs/Records.antt of records). These are leaves: each asks that the words
-// it touches are there.
+// An edge is six words (specs/Records.antt of records), and their words and count are kept apart, as in
+// records. These are leaves: each asks that the words it touches are there.
 
 #![tactic(auto)]
 

@@ -137,7 +137,7 @@ fn invalid_batch(batch: &[u64], count: usize, n: u64) -> bool
 
 // 11, of every header and all arrays of the right lengths. The local horizons are not read: a state
 // has one for each process by its layout. The header comes first: the walks ask that as many words as
-// it says are there.
+// it says are there. The arrays stay apart, as the calls on lent arrays have them.
 pub fn is_foreign<'a>(
     head: Header,
     edges: &'a [u64],

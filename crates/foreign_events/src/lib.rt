@@ -1,4 +1,5 @@
-// Events in flat words: what 11 asks of them, each in one pass.
+// Events in flat words: what 11 asks of them, each in one pass, by a test that is given to the walk of
+// records. Words and a count are kept apart, as there.
 //
 // These are leaves: each asks that the words it touches are there.
 

@@ -3,7 +3,7 @@
 //
 // It stands in the table of the processes (`horizons_of`, `inbounds_of` in specs/Words.antt of words),
 // from place 64 on. These are leaves: each asks that the words it touches are there. That the table has 256
-// words stays a clause beside a slice: the caller in C lends it as one.
+// words stays a clause beside a slice: a type of 256 words would ask more of the calls on lent arrays.
 
 #![tactic(auto)]
 

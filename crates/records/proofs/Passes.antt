@@ -10,11 +10,10 @@ use Rattle.rules.specs.Base.{any, rising}
 module _ {A : Type 0} (test : A → Bool) (f : ℕ → A) (n : ℕ) where
   -- What the elements from i on say is what all say.
   pub record Seeking (i : ℕ) : Type 0 where
-    pub within : i ≤ n
     pub rest : any test (tab f i (n - i)) ≡ any test (tab f 0 n)
 
   pub seeking_start : Seeking 0
-  seeking_start = record { within = omega arith; rest = rw (tab_whole f 0 n refl) }
+  seeking_start = record { rest = rw (tab_whole f 0 n refl) }
 
   module _ (i : ℕ) (h : i < n) (s : Seeking i) where
     next : test (f i) || any test (tab f (i + 1) (n - (i + 1))) ≡ any test (tab f 0 n)
@@ -22,7 +21,7 @@ module _ {A : Type 0} (test : A → Bool) (f : ℕ → A) (n : ℕ) where
     next = rw (tab_next f i n h) at s.rest
 
     pub seeking_more : test (f i) ≡ false → Seeking (i + 1)
-    seeking_more t = record { within = omega arith; rest = rw t at next }
+    seeking_more t = record { rest = rw t at next }
 
     pub seeking_found : test (f i) ≡ true → true ≡ any test (tab f 0 n)
     seeking_found t = rw t at next
