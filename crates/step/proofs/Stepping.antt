@@ -1,12 +1,11 @@
 -- What each return of a step gives.
+use Rattle.std.specs.Prelude.{Result, Ok, Err}
 use mathlib.Core.Path.{◌≡◌, refl, sym, ap, subst, ◌∙◌}
-use mathlib.Core.Bool.{Bool, true, false, not, ◌||◌, true≢false}
+use mathlib.Core.Bool.{Bool, true, false, not, ◌||◌}
 use mathlib.Core.List.{List, []}
 use Prim.Native.Nat.{ℕ, ◌*◌, ◌≤◌, ◌<◌}
 use native.Mathlib.Omega.{arith}
-use lib.Dec.{eqb}
 use lib.ListN.{length}
-use borrow.Author.Tests.{eqb-true, eqb-false}
 use Rattle.types.specs.Value.{ticks_of}
 use Rattle.records.specs.Records.{event_at, events_of}
 use Rattle.rules.specs.Base.{non_empty}
@@ -14,14 +13,15 @@ use Rattle.rules.specs.State.{Event, State, with_batch}
 use Rattle.rules.specs.Answers as A
 use Rattle.rules.specs.Rows.{out}
 use Rattle.rules.specs.Step.{taken_at}
-use Rattle.rules.proofs.Tests.{by_bool, not_both}
+use Rattle.rules.proofs.Tests.{not_both}
 use Rattle.rules.proofs.Cases
 use Rattle.rules.proofs.Outcomes.{step_poisoned, step_nothing, step_runs, run_batch}
 use Rattle.inbound.specs.Inbound.{Destinations}
 use Rattle.frontiers.specs.Rises.{Sources}
 use Rattle.state.specs.declared.Header.{Header}
 use Rattle.state.specs.declared.Counters.{Counters}
-use Rattle.state.specs.declared.Answer.TheVariants as P
+use Rattle.state.specs.declared.Refusal.{Refusal}
+use Rattle.state.specs.declared.Refusal.TheVariants as P
 use Rattle.state.specs.View.{view, counters_of}
 use Rattle.state.specs.Headers.{with_counts}
 use Rattle.state.specs.ValidArrays.{ValidArrays}
@@ -30,11 +30,8 @@ use Rattle.state.proofs.Moves.{batch_moves}
 use Rattle.step_advance.specs.Advances.{CanAdvance}
 use Rattle.state.specs.declared.CoreResult.{CoreResult}
 use Rattle.step.specs.WithoutBatch.{NothingTaken, without_batch, AdvancesOrRefuses}
-use Rattle.step.specs.Steps.{CanStep, StepAllowed, Refuses, CanTakeBatch, HandsOut, batch_answered, Steps}
+use Rattle.step.specs.Steps.{CanStep, StepRefusal, CanTakeBatch, HandsOut, batch_answered, Steps}
 use Rattle.step.proofs.WithoutBatch.{without_batch_holds}
-
-positive : (n : ℕ) → (n ≡ 0 → ⊥) → 0 < n
-positive n f = omega arith
 
 none_is : (es : List Event) → es ≡ [] → non_empty es ≡ false
 unfolding non_empty
@@ -45,39 +42,31 @@ held_or true b e = e
 held_or false b e = refl
 
 module _ (h : Header) (c : Counters) (E Q Z B : List ℕ) (l : ValidArrays h E Q Z B) where
-  pub step_of_poisoned : h.poisoned ≡ true → Steps h c E Q Z B (record { answer = P.Poisoned; head = h; counters = c }) E Q Z B
+  pub step_of_poisoned : h.poisoned ≡ true → Steps h c E Q Z B (record { answer = Err P.Poisoned; head = h; counters = c }) E Q Z B
   step_of_poisoned p = record { gives = sym (step_poisoned (view h E Q Z B) (counters_of c) l.passes p); kept = λ es x. record { same_head = refl; same_counters = refl; same_edges = refl; same_pending = refl; same_processes = refl; same_batch = refl } }
 
   module _ (p : h.poisoned ≡ false) where
-    pub step_closed : not h.running ≡ true → Steps h c E Q Z B (record { answer = P.NothingToStep; head = h; counters = c }) E Q Z B
+    pub step_closed : not h.running ≡ true → Steps h c E Q Z B (record { answer = Err P.NothingToStep; head = h; counters = c }) E Q Z B
     step_closed r = record { gives = sym (step_nothing (view h E Q Z B) (counters_of c) l.passes p (rw r)); kept = λ es x. record { same_head = refl; same_counters = refl; same_edges = refl; same_pending = refl; same_processes = refl; same_batch = refl } }
 
-    pub step_held : 0 < h.batch → Steps h c E Q Z B (record { answer = P.NothingToStep; head = h; counters = c }) E Q Z B
+    pub step_held : 0 < h.batch → Steps h c E Q Z B (record { answer = Err P.NothingToStep; head = h; counters = c }) E Q Z B
     step_held k = record { gives = sym (step_nothing (view h E Q Z B) (counters_of c) l.passes p (held_or h.running _ (some_events (event_at B) 0 h.batch k))); kept = λ es x. record { same_head = refl; same_counters = refl; same_edges = refl; same_pending = refl; same_processes = refl; same_batch = refl } }
-
--- 12 and 23, where one of them refuses.
-pub refusing : (h : Header) (c : Counters) → h.poisoned ≡ true → Refuses h c (record { answer = P.Poisoned; head = h; counters = c })
-refusing h c p = λ E Q Z B l. step_of_poisoned h c E Q Z B l p
-
-pub nothing : (h : Header) (c : Counters) → (CanStep h → ⊥) → h.poisoned ≡ false → Refuses h c (record { answer = P.NothingToStep; head = h; counters = c })
-nothing h c n p = λ E Q Z B l. by_bool h.running
-    (λ r. step_held h c E Q Z B l p (positive h.batch (λ e. n (record { healthy = p; open_run = r; empty = e }))))
-    (λ r. step_closed h c E Q Z B l p (rw r))
 
 -- 12 and 23, as the program tests them.
 module _ (h : Header) where
-  pub allowed_poisoned : h.poisoned ≡ true → StepAllowed h false
-  allowed_poisoned p = record { yes_step = λ e. absurd (true≢false (sym e)); no_step = λ _ s. not_both p s.healthy }
+  pub poisoned : h.poisoned ≡ true → StepRefusal h (Err P.Poisoned)
+  poisoned p = λ c E Q Z B l. step_of_poisoned h c E Q Z B l p
 
   module _ (p : h.poisoned ≡ false) where
-    pub allowed_closed : h.running ≡ false → StepAllowed h false
-    allowed_closed r = record { yes_step = λ e. absurd (true≢false (sym e)); no_step = λ _ s. not_both s.open_run r }
+    pub closed : h.running ≡ false → StepRefusal h (Err P.NothingToStep)
+    closed r = λ c E Q Z B l. step_closed h c E Q Z B l p (rw r)
 
-    pub allowed_held : h.running ≡ true → StepAllowed h (eqb h.batch 0)
-    allowed_held r = record {
-      yes_step = λ e. record { healthy = p; open_run = r; empty = eqb-true h.batch 0 e };
-      no_step = λ e s. eqb-false h.batch 0 e s.empty;
-    }
+    pub held : 0 < h.batch → StepRefusal h (Err P.NothingToStep)
+    held k = λ c E Q Z B l. step_held h c E Q Z B l p k
+
+pub passed : (h : Header) (r : Result (Unit {0}) Refusal) → StepRefusal h r → ((e : Refusal) → r ≡ Err e → ⊥) → CanStep h
+passed h (Ok u) p n = p
+passed h (Err e) p n = absurd (n e refl)
 
 -- What follows them: a batch, or what is done without one.
 module _ (h : Header) (c : Counters) (E Q Z B : List ℕ) (l : ValidArrays h E Q Z B) (p : CanStep h) where

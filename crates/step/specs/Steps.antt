@@ -1,5 +1,5 @@
 -- What the core of a step asks and leaves, in the words of the rules.
-use Rattle.std.specs.Prelude.{◌≡◌, Bool, true, false, List, ℕ, ◌^◌, ◌-◌, ◌≤◌, ◌<◌, length}
+use Rattle.std.specs.Prelude.{◌≡◌, true, false, List, ℕ, ◌^◌, ◌-◌, ◌≤◌, ◌<◌, length, Result, Ok, Err}
 use Rattle.types.specs.Value.{ticks_of}
 use Rattle.records.specs.Records.{events_of}
 use Rattle.rules.specs.Base.{rising}
@@ -10,10 +10,12 @@ use Rattle.rules.specs.Step.{taken_at, step}
 use Rattle.rules.proofs.Lists.{All}
 use Rattle.state.specs.declared.Header.{Header}
 use Rattle.state.specs.declared.Counters.{Counters}
-use Rattle.state.specs.declared.Answer.TheVariants as P
+use Rattle.state.specs.declared.Answer.TheVariants as D
+use Rattle.state.specs.declared.Refusal.{Refusal}
 use Rattle.state.specs.View.{view, counters_of, answer_of}
 use Rattle.state.specs.Headers.{with_counts}
 use Rattle.state.specs.ValidArrays.{ValidArrays}
+use Rattle.state.specs.RefusalOr.{RefusalOr}
 use Rattle.state.specs.AsGiven.{leaves_state_as_given, SameAsGiven}
 use Rattle.state.specs.declared.CoreResult.{CoreResult}
 
@@ -44,14 +46,14 @@ pub record CanStep (h : Header) : Type 0 where
   pub open_run : h.running ≡ true
   pub empty : h.batch ≡ 0
 
-pub record StepAllowed (h : Header) (t : Bool) : Type 0 where
-  pub yes_step : t ≡ true → CanStep h
-  pub no_step : t ≡ false → CanStep h → ⊥
-
 -- All is left as given, whatever the arrays are.
 abbrev pub Refuses : Header → Counters → CoreResult → Type 0
 Refuses h c r = (E P Z B : List ℕ) → ValidArrays h E P Z B → Steps h c E P Z B r E P Z B
 
+-- What rows 12 and 23 answer, whatever the counters are.
+abbrev pub StepRefusal : Header → Result (Unit {0}) Refusal → Type 0
+StepRefusal h r = RefusalOr r (CanStep h) (λ e. (c : Counters) → Refuses h c (record { answer = Err e; head = h; counters = c }))
+
 -- The batch in hand is answered.
 abbrev pub batch_answered : Header → Counters → CoreResult
-batch_answered h c = record { answer = P.Batch h.gvt; head = h; counters = c }
+batch_answered h c = record { answer = Ok (D.Batch h.gvt); head = h; counters = c }

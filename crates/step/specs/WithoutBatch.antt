@@ -1,5 +1,5 @@
 -- What a step that takes nothing asks and leaves, in the words of the rules.
-use Rattle.std.specs.Prelude.{◌≡◌, true, false, List, ℕ}
+use Rattle.std.specs.Prelude.{◌≡◌, true, false, List, ℕ, Result, Ok, Err}
 use Rattle.types.specs.Value.{ticks_of}
 use Rattle.records.specs.Records.{events_of}
 use Rattle.rules.specs.Base.{non_empty}
@@ -11,7 +11,10 @@ use Rattle.rules.specs.InPlace.{advance_in_place}
 use Rattle.rules.proofs.Cases
 use Rattle.state.specs.declared.Header.{Header}
 use Rattle.state.specs.declared.Counters.{Counters}
-use Rattle.state.specs.declared.Answer.TheVariants as P
+use Rattle.state.specs.declared.Answer.{Answer}
+use Rattle.state.specs.declared.Answer.TheVariants as D
+use Rattle.state.specs.declared.Refusal.{Refusal}
+use Rattle.state.specs.declared.Refusal.TheVariants as P
 use Rattle.state.specs.declared.CoreResult.{CoreResult}
 use Rattle.state.specs.View.{view, counters_of, answer_of}
 use Rattle.state.specs.Headers.{closed_header}
@@ -33,16 +36,19 @@ pub record AdvancesOrRefuses (h : Header) (c : Counters) (edges pending processe
       → out (answer_of (events_of r.head.batch B) r.answer) (view r.head edges' pending processes' B) (counters_of r.counters) ≡ without_batch (view h edges pending processes B) (counters_of c) (ticks_of h.horizon) h.budget
   pub moves : (es : List Event) → leaves_state_as_given (answer_of es r.answer) ≡ false
 
--- The run is closed by 24, or because it is complete.
+-- The run is closed, with the answer a: by 24, or because it is complete.
+abbrev pub closed_with : Result Answer Refusal → Header → Counters → CoreResult
+closed_with a h c = record { answer = a; head = closed_header h; counters = c }
+
 abbrev pub spent_of : Header → Counters → CoreResult
-spent_of h c = record { answer = P.EventBudgetExceeded h.budget; head = closed_header h; counters = c }
+spent_of h c = closed_with (Err (P.EventBudgetExceeded h.budget)) h c
 
 abbrev pub finished_of : Header → Counters → CoreResult
-finished_of h c = record { answer = P.Finished h.gvt; head = closed_header h; counters = c }
+finished_of h c = closed_with (Ok (D.Finished h.gvt)) h c
 
 -- Something rose, k edge bounds among it.
 pub record Rises (h : Header) (c : Counters) (k : ℕ) (r : CoreResult) : Type 0 where
-  pub after : r ≡ record { answer = P.Advanced h.gvt; head = h; counters = r.counters }
+  pub after : r ≡ record { answer = Ok (D.Advanced h.gvt); head = h; counters = r.counters }
   pub counted : counters_of r.counters ≡ count_advance (counters_of c) k
 
 -- What the advance r is answered with.
