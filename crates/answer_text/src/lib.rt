@@ -6,15 +6,13 @@
 ghost use Rattle.std.specs.Prelude.{◌≡◌, ℕ, ◌<◌, ◌≤◌, ◌≢◌, length, slice_index};
 
 use answer_values::Values;
-use build::BuildAnswer;
-use reads::ReadAnswer;
-use state::{Answer, Counters, Header, Runtime};
-use text_output::ROOM;
+use build::BuildRefusal;
+use reads::Reading;
+use state::{Answer, Counters, Header, Refusal, Runtime};
+use text_output::Gathered;
 use types::{LpId, SimTime};
 
-// The words of a number, a tick, an edge and an event.
-const NUMBER: usize = 1;
-
+// The words of a tick, an edge and an event.
 const TICK: usize = 2;
 
 const EDGE: usize = 6;
@@ -27,34 +25,8 @@ const HALF: usize = 128;
 // The digits of a word of payload, two for each byte.
 const DIGITS: usize = 16;
 
-// The names of answers, by their places.
-const ACCEPTED: usize = 0;
-
-const BATCH: usize = 1;
-
-const ADVANCED: usize = 2;
-
-const FINISHED: usize = 3;
-
-const COMMITTED: usize = 4;
-
-const GVT: usize = 5;
-
-const COUNTERS: usize = 6;
-
-const PENDING: usize = 7;
-
-const EARLIEST: usize = 8;
-
-const GIVEN: usize = 9;
-
-const REFUSED: usize = 10;
-
-fn min(a: usize, b: usize) -> usize
-    ensures { (result ≤ a) × (result ≤ b) }
-{
-    if a < b { a } else { b }
-}
+// The letters of a name, with the spaces behind it.
+const LETTERS: usize = 9;
 
 // The first place from `from` on, below `to`, where the byte is b; `to` where there is none.
 fn find(bytes: &[u8], from: usize, to: usize, b: u8) -> usize
@@ -71,317 +43,254 @@ fn find(bytes: &[u8], from: usize, to: usize, b: u8) -> usize
     to
 }
 
-// The names in the order of their places, nine letters each.
-fn put_name(out: &mut [u8; ROOM], at: usize, k: usize) -> usize {
-    let names =
-        *b"accepted batch    advanced finished committedgvt      counters pending  earliest given    refused  ";
-    let from = 9 * min(k, REFUSED);
-    let end = find(&names, from, from + 9, b' ');
-    text_output::put(out, at, &names[from..end])
+// A name without the spaces behind it. Kept as a search: the contract of `find` and its two must-fail
+// edits hold it, so the names are of one length.
+fn put_name(out: &mut Gathered, name: &[u8; LETTERS]) {
+    let end = find(name, 0, LETTERS, b' ');
+    out.put(&name[..end]);
 }
 
-// What a line begins with: a name, or "refused" and the number.
-fn put_first(out: &mut [u8; ROOM], number: u64, name: usize) -> usize {
-    if number == 0 {
-        return put_name(out, 0, name);
-    }
-    let end = put_name(out, 0, REFUSED);
-    text_output::put_next(out, end, b' ', number)
-}
-
-fn name_of(answer: Answer) -> usize {
+fn name_of(answer: Result<Answer, Refusal>) -> &'static [u8; LETTERS] {
     match answer {
-        Answer::Accepted => ACCEPTED,
-        Answer::Batch(_) => BATCH,
-        Answer::Advanced(_) => ADVANCED,
-        Answer::Finished(_) => FINISHED,
-        Answer::Committed(_) => COMMITTED,
-        _ => REFUSED,
+        Ok(Answer::Accepted) => b"accepted ",
+        Ok(Answer::Batch(_)) => b"batch    ",
+        Ok(Answer::Advanced(_)) => b"advanced ",
+        Ok(Answer::Finished(_)) => b"finished ",
+        Ok(Answer::Committed(_)) => b"committed",
+        Err(_) => b"refused  ",
     }
 }
 
-fn read_name(answer: ReadAnswer) -> usize {
+fn read_name(answer: Result<Reading, Refusal>) -> &'static [u8; LETTERS] {
     match answer {
-        ReadAnswer::Gvt(_) => GVT,
-        ReadAnswer::Counted(_, _) => COUNTERS,
-        ReadAnswer::Pending(_) => PENDING,
-        ReadAnswer::Earliest(_) => EARLIEST,
-        ReadAnswer::ForeignState => REFUSED,
+        Ok(Reading::Gvt(_)) => b"gvt      ",
+        Ok(Reading::Counted(_, _)) => b"counters ",
+        Ok(Reading::Pending(_)) => b"pending  ",
+        Ok(Reading::Earliest(_)) => b"earliest ",
+        Err(_) => b"refused  ",
     }
 }
 
-fn put_edge(out: &mut [u8; ROOM], at: usize, w: &[u64]) -> usize
-    requires { 6 ≤ length w.now }
-{
-    let mut end = text_output::put_next(out, at, b' ', w[0]);
-    end = text_output::put_next(out, end, b':', w[1]);
-    end = text_output::put_next_tick(out, end, b':', words::tick_in(w, 2));
-    text_output::put_next_tick(out, end, b':', words::tick_in(w, 4))
+fn build_name(answer: Result<(), BuildRefusal>) -> &'static [u8; LETTERS] {
+    match answer {
+        Ok(()) => b"accepted ",
+        Err(_) => b"refused  ",
+    }
+}
+
+fn put_number(out: &mut Gathered, n: u64) {
+    out.put_next(b' ', n);
+}
+
+fn put_id(out: &mut Gathered, p: LpId) {
+    put_number(out, p.to_word());
+}
+
+fn put_tick(out: &mut Gathered, t: SimTime) {
+    out.put_next_tick(b' ', t);
 }
 
 // The digits of so many bytes of the word, at most all.
-fn put_bytes(out: &mut [u8; ROOM], at: usize, word: u64, count: usize) -> usize {
+fn put_bytes(out: &mut Gathered, word: u64, count: usize) {
     let mut text = [0u8; DIGITS];
     io::hex(word, DIGITS, &mut text);
-    let end = 2 * min(count, 8);
-    text_output::put(out, at, &text[..end])
+    out.put(&text[..2 * count.min(8)]);
 }
 
-fn put_payload(out: &mut [u8; ROOM], at: usize, len: usize, p0: u64, p1: u64) -> usize {
-    let end = put_bytes(out, at, p0, len);
-    if len <= 8 {
-        return end;
-    }
-    put_bytes(out, end, p1, len - 8)
+fn put_payload(out: &mut Gathered, len: usize, p0: u64, p1: u64) {
+    put_bytes(out, p0, len);
+    put_bytes(out, p1, len.saturating_sub(8));
 }
 
-fn put_event(out: &mut [u8; ROOM], at: usize, w: &[u64]) -> usize
-    requires { 8 ≤ length w.now }
-{
+// The things of lists, each behind a space.
+fn put_tick_words(out: &mut Gathered, w: &[u64; TICK]) {
+    put_tick(out, words::tick_in(w, 0));
+}
+
+fn put_edge(out: &mut Gathered, w: &[u64; EDGE]) {
+    put_number(out, w[0]);
+    out.put_next(b':', w[1]);
+    out.put_next_tick(b':', words::tick_in(w, 2));
+    out.put_next_tick(b':', words::tick_in(w, 4));
+}
+
+fn put_event(out: &mut Gathered, w: &[u64; EVENT]) {
     let r = records::record_in(w, 0);
-    let mut end = text_output::put_next(out, at, b' ', r.destination);
-    end = text_output::put_next_tick(out, end, b':', r.tick());
-    end = text_output::put_next(out, end, b':', r.source);
-    end = text_output::put_next(out, end, b':', r.sequence);
-    end = text_output::put_byte(out, end, b':');
-    put_payload(out, end, r.len as usize, r.payload_hi, r.payload_lo)
+    put_number(out, r.destination);
+    out.put_next_tick(b':', r.tick());
+    out.put_next(b':', r.source);
+    out.put_next(b':', r.sequence);
+    out.put_byte(b':');
+    put_payload(out, r.len as usize, r.payload_hi, r.payload_lo);
 }
 
-// A thing of a list is told by how many words it has. It is put behind a space.
-fn put_item(out: &mut [u8; ROOM], at: usize, w: &[u64]) -> usize {
-    if w.len() == NUMBER {
-        return text_output::put_next(out, at, b' ', w[0]);
+fn put_bar(out: &mut Gathered) {
+    out.put(b" |");
+}
+
+// A field that is a list of so many of the things, at most all, each put by `put`. Where it is empty, it
+// leaves its space.
+fn put_list<T, F: Fn(&mut Gathered, &T)>(out: &mut Gathered, things: &[T], count: usize, put: F)
+    requires { F.IsAlwaysCallable put }
+{
+    put_bar(out);
+    if count == 0 {
+        out.put_byte(b' ');
     }
-    if w.len() == TICK {
-        return text_output::put_next_tick(out, at, b' ', words::tick_in(w, 0));
+    for thing in things.iter().take(count) {
+        put(out, thing);
     }
-    if w.len() == EDGE {
-        return put_edge(out, at, w);
-    }
-    if w.len() == EVENT {
-        return put_event(out, at, w);
-    }
-    at
-}
-
-// So many things of `width` words each.
-fn put_items(out: &mut [u8; ROOM], at: usize, w: &[u64], width: usize, count: usize) -> usize {
-    let mut end = at;
-    let mut from: usize = 0;
-    let mut left = count;
-    while 0 < left {
-        if w.len() - from < width {
-            return end;
-        }
-        end = put_item(out, end, &w[from..from + width]);
-        from += width;
-        left -= 1;
-    }
-    end
-}
-
-fn put_number(out: &mut [u8; ROOM], at: usize, n: u64) -> usize {
-    text_output::put_next(out, at, b' ', n)
-}
-
-fn put_id(out: &mut [u8; ROOM], at: usize, p: LpId) -> usize {
-    put_number(out, at, p.to_word())
-}
-
-fn put_tick(out: &mut [u8; ROOM], at: usize, t: SimTime) -> usize {
-    text_output::put_next_tick(out, at, b' ', t)
-}
-
-fn put_two_numbers(out: &mut [u8; ROOM], at: usize, m: u64, n: u64) -> usize {
-    let end = put_number(out, at, m);
-    put_number(out, end, n)
-}
-
-fn put_two_ticks(out: &mut [u8; ROOM], at: usize, t: SimTime, u: SimTime) -> usize {
-    let end = put_tick(out, at, t);
-    put_tick(out, end, u)
-}
-
-fn put_id_and_ticks(out: &mut [u8; ROOM], at: usize, p: LpId, t: SimTime, u: SimTime) -> usize {
-    let end = put_id(out, at, p);
-    put_two_ticks(out, end, t, u)
 }
 
 // The seven counters, the last of which is the state's.
-fn put_counters(out: &mut [u8; ROOM], at: usize, counters: Counters, used: u64) -> usize {
-    let w = [
-        counters.processed_events,
-        counters.emitted_events,
-        counters.remote_events,
-        counters.rounds,
-        counters.null_messages,
-        counters.worker_count,
-        used,
-    ];
-    put_items(out, at, &w, NUMBER, 7)
+fn put_counters(out: &mut Gathered, counters: Counters, used: u64) {
+    put_number(out, counters.processed_events);
+    put_number(out, counters.emitted_events);
+    put_number(out, counters.remote_events);
+    put_number(out, counters.rounds);
+    put_number(out, counters.null_messages);
+    put_number(out, counters.worker_count);
+    put_number(out, used);
 }
 
 // The values of an answer, each behind a space.
-fn put_values(out: &mut [u8; ROOM], at: usize, values: Values) -> usize {
+fn put_values(out: &mut Gathered, values: Values) {
     match values {
-        Values::Nothing => at,
-        Values::Number(n) => put_number(out, at, n),
-        Values::Numbers(m, n) => put_two_numbers(out, at, m, n),
-        Values::Id(p) => put_id(out, at, p),
-        Values::Ids(p, q) => put_two_numbers(out, at, p.to_word(), q.to_word()),
-        Values::Tick(t) => put_tick(out, at, t),
-        Values::Ticks(t, u) => put_two_ticks(out, at, t, u),
-        Values::IdTicks(p, t, u) => put_id_and_ticks(out, at, p, t, u),
+        Values::Nothing => {}
+        Values::Number(n) => put_number(out, n),
+        Values::Numbers(m, n) => {
+            put_number(out, m);
+            put_number(out, n);
+        }
+        Values::Id(p) => put_id(out, p),
+        Values::Ids(p, q) => {
+            put_id(out, p);
+            put_id(out, q);
+        }
+        Values::Tick(t) => put_tick(out, t),
+        Values::Ticks(t, u) => {
+            put_tick(out, t);
+            put_tick(out, u);
+        }
+        Values::IdTicks(p, t, u) => {
+            put_id(out, p);
+            put_tick(out, t);
+            put_tick(out, u);
+        }
         Values::IdThreeTicks(p, t, u, v) => {
-            let end = put_id_and_ticks(out, at, p, t, u);
-            put_tick(out, end, v)
+            put_id(out, p);
+            put_tick(out, t);
+            put_tick(out, u);
+            put_tick(out, v);
         }
         Values::IdTickDuration(p, t, d) => {
-            put_id_and_ticks(out, at, p, t, SimTime::after_zero(d))
+            put_id(out, p);
+            put_tick(out, t);
+            put_tick(out, SimTime::after_zero(d));
         }
-        Values::Counted(counters, used) => put_counters(out, at, counters, used),
+        Values::Counted(counters, used) => put_counters(out, counters, used),
     }
 }
 
-fn put_bar(out: &mut [u8; ROOM], at: usize) -> usize {
-    text_output::put(out, at, b" |")
-}
-
-// A field that is a list. Where it is empty, it leaves its space.
-fn put_list(out: &mut [u8; ROOM], at: usize, w: &[u64], width: usize, count: usize) -> usize {
-    let end = put_bar(out, at);
-    if count == 0 {
-        return text_output::put_byte(out, end, b' ');
+// What a line begins with: a name, the number of a refusal, and the values.
+fn put_first(out: &mut Gathered, name: &[u8; LETTERS], number: u64, values: Values) {
+    put_name(out, name);
+    if number != 0 {
+        put_number(out, number);
     }
-    put_items(out, end, w, width, count)
+    put_values(out, values);
 }
 
-fn put_sizes(out: &mut [u8; ROOM], at: usize, head: Header) -> usize {
-    let mut end = text_output::put_next(out, at, b' ', head.n as u64);
-    end = put_tick(out, end, SimTime::after_zero(head.lookahead));
-    end = text_output::put_next(out, end, b' ', head.next);
-    text_output::put_next_tick(out, end, b' ', head.gvt)
+fn put_sizes(out: &mut Gathered, head: &Header) {
+    put_bar(out);
+    put_number(out, head.n as u64);
+    put_tick(out, SimTime::after_zero(head.lookahead));
+    put_number(out, head.next);
+    put_tick(out, head.gvt);
 }
 
-fn put_stored(
-    out: &mut [u8; ROOM],
-    at: usize,
-    stored: bool,
-    horizon: SimTime,
-    budget: u64,
-) -> usize {
-    let mut end = put_bar(out, at);
-    if stored {
-        end = text_output::put_next_tick(out, end, b' ', horizon);
-        return text_output::put_next(out, end, b' ', budget);
+fn put_stored(out: &mut Gathered, head: &Header) {
+    put_bar(out);
+    if head.stored {
+        put_tick(out, head.horizon);
+        put_number(out, head.budget);
+    } else {
+        out.put(b" -");
     }
-    end = text_output::put_byte(out, end, b' ');
-    text_output::put_byte(out, end, b'-')
 }
 
 fn digit(flag: bool) -> u8 {
-    if flag { b'1' } else { b'0' }
+    b'0' + u8::from(flag)
 }
 
-// The flags; the line is written.
-fn print_flags(out: &mut [u8; ROOM], at: usize, initial: bool, running: bool, poisoned: bool) {
-    let flags = [b' ', digit(initial), digit(running), digit(poisoned)];
-    let mut end = put_bar(out, at);
-    end = text_output::put(out, end, &flags);
-    text_output::end_line(out, end);
+fn put_flags(out: &mut Gathered, head: &Header) {
+    put_bar(out);
+    out.put_byte(b' ');
+    out.put_byte(digit(head.initial));
+    out.put_byte(digit(head.running));
+    out.put_byte(digit(head.poisoned));
 }
 
-// The counters and the sizes.
-fn put_numbers(out: &mut [u8; ROOM], at: usize, head: Header, counters: Counters) -> usize {
-    let mut end = put_bar(out, at);
-    end = put_counters(out, end, counters, head.used);
-    end = put_bar(out, end);
-    put_sizes(out, end, head)
+// The local horizons of the processes, then their least inbound bounds: the halves of their table.
+fn put_processes(out: &mut Gathered, processes: &[u64; 256], n: usize) {
+    put_list(out, processes[..HALF].as_chunks().0, n, put_tick_words);
+    put_list(out, processes[HALF..].as_chunks().0, n, put_tick_words);
 }
 
-// The local horizons of n processes, then their least inbound bounds: the halves of their table.
-fn put_processes(out: &mut [u8; ROOM], at: usize, w: &[u64], n: usize) -> usize
-    requires { length w.now ≡ 256 }
-{
-    let end = put_list(out, at, &w[0..HALF], TICK, n);
-    put_list(out, end, &w[HALF..], TICK, n)
-}
-
-// The six fields from the edges to the batch.
-fn put_lists<'a>(
-    out: &mut [u8; ROOM],
-    at: usize,
-    head: Header,
-    edges: &'a [u64],
-    pending: &'a [u64],
-    processes: &'a [u64],
-    batch: &'a [u64],
-) -> usize
-    requires { length processes.now ≡ 256 }
-{
-    let mut end = put_list(out, at, edges, EDGE, head.edges);
-    end = put_list(out, end, pending, EVENT, head.pending);
-    end = put_processes(out, end, processes, head.n);
-    end = put_stored(out, end, head.stored, head.horizon, head.budget);
-    put_list(out, end, batch, EVENT, head.batch)
-}
-
-fn print_lists(out: &mut [u8; ROOM], at: usize, state: Runtime) {
-    let head = state.head;
-    let end = put_lists(
-        out,
-        at,
-        head,
-        &state.edges,
-        &state.pending,
-        &state.processes,
-        &state.batch,
-    );
-    print_flags(out, end, head.initial, head.running, head.poisoned);
-}
-
-// All fields behind the answer.
-fn print_state(out: &mut [u8; ROOM], at: usize, state: Runtime, counters: Counters) {
-    let head = state.head;
-    let end = put_numbers(out, at, head, counters);
-    print_lists(out, end, state);
-}
-
-fn put_answer(out: &mut [u8; ROOM], answer: Answer) -> usize {
-    let end = put_first(out, answer_values::number_of(answer), name_of(answer));
-    put_values(out, end, answer_values::values_of(answer))
+// All fields behind the answer; the line is written.
+fn print_state(out: &mut Gathered, state: &Runtime, counters: Counters) {
+    let head = &state.head;
+    put_bar(out);
+    put_counters(out, counters, head.used);
+    put_sizes(out, head);
+    put_list(out, state.edges.as_chunks().0, head.edges, put_edge);
+    put_list(out, state.pending.as_chunks().0, head.pending, put_event);
+    put_processes(out, &state.processes, head.n);
+    put_stored(out, head);
+    put_list(out, state.batch.as_chunks().0, head.batch, put_event);
+    put_flags(out, head);
+    out.end_line();
 }
 
 // The line of a call on a state, and of an accepted build.
-pub fn print_line(answer: Answer, state: Runtime, counters: Counters) {
-    let mut out = io::buffer();
-    let end = put_answer(&mut out, answer);
-    print_state(&mut out, end, state, counters);
-}
-
-fn put_read(out: &mut [u8; ROOM], answer: ReadAnswer) -> usize {
-    let end = put_first(out, answer_values::read_number(answer), read_name(answer));
-    put_values(out, end, answer_values::read_values(answer))
+pub fn print_line(answer: Result<Answer, Refusal>, state: &Runtime, counters: Counters) {
+    let mut out = Gathered::new();
+    put_first(
+        &mut out,
+        name_of(answer),
+        answer_values::number_of(answer),
+        answer_values::values_of(answer),
+    );
+    print_state(&mut out, state, counters);
 }
 
 // The line of a state given whole.
-pub fn print_given(state: Runtime, counters: Counters) {
-    let mut out = io::buffer();
-    let end = put_name(&mut out, 0, GIVEN);
-    print_state(&mut out, end, state, counters);
+pub fn print_given(state: &Runtime, counters: Counters) {
+    let mut out = Gathered::new();
+    put_name(&mut out, b"given    ");
+    print_state(&mut out, state, counters);
 }
 
 // The line of a read.
-pub fn print_read(answer: ReadAnswer, state: Runtime, counters: Counters) {
-    let mut out = io::buffer();
-    let end = put_read(&mut out, answer);
-    print_state(&mut out, end, state, counters);
+pub fn print_read(answer: Result<Reading, Refusal>, state: &Runtime, counters: Counters) {
+    let mut out = Gathered::new();
+    put_first(
+        &mut out,
+        read_name(answer),
+        answer_values::read_number(answer),
+        answer_values::read_values(answer),
+    );
+    print_state(&mut out, state, counters);
 }
 
 // "A refused build has its answer alone".
-pub fn print_refused_build(answer: BuildAnswer) {
-    let mut out = io::buffer();
-    let mut end = put_first(&mut out, answer_values::build_number(answer), ACCEPTED);
-    end = put_values(&mut out, end, answer_values::build_values(answer));
-    text_output::end_line(&mut out, end);
+pub fn print_refused_build(answer: Result<(), BuildRefusal>) {
+    let mut out = Gathered::new();
+    put_first(
+        &mut out,
+        build_name(answer),
+        answer_values::build_number(answer),
+        answer_values::build_values(answer),
+    );
+    out.end_line();
 }
