@@ -2,6 +2,7 @@
 use mathlib.Core.Path.{◌≡◌, refl, sym, ap, ◌∙◌}
 use mathlib.Core.Bool.{Bool, true, false}
 use mathlib.Core.List.{List}
+use Rattle.std.specs.Prelude.{Result, Ok, Err}
 use Prim.Native.Nat.{ℕ, suc, max}
 use Rattle.types.specs.declared.SimTime.{SimTime}
 use Rattle.types.specs.Value.{ticks_of}
@@ -21,7 +22,9 @@ use Rattle.state.specs.declared.Header.{Header}
 use Rattle.state.specs.declared.Counters.{Counters}
 use Rattle.state.specs.declared.CoreResult.{CoreResult}
 use Rattle.state.specs.declared.Answer.{Answer}
-use Rattle.state.specs.declared.Answer.TheVariants as P
+use Rattle.state.specs.declared.Answer.TheVariants as D
+use Rattle.state.specs.declared.Refusal.{Refusal}
+use Rattle.state.specs.declared.Refusal.TheVariants as P
 use Rattle.state.specs.View.{view, counters_of}
 use Rattle.state.specs.Headers.{closed_header, with_gvt}
 use Rattle.state.proofs.Moves.{spent_moves, committed_moves}
@@ -43,10 +46,10 @@ counts_are c handled emitted remote a b d e f ea eb ed ee ef es xs h x m = λ i.
 }
 
 -- An answer with a header and counters.
-abbrev after : Answer → Counters → Header → CoreResult
+abbrev after : Result Answer Refusal → Counters → Header → CoreResult
 after a c h = record { answer = a; head = h; counters = c }
 
-pub leaves : (a : Answer) (c : Counters) (g h : Header) → g ≡ h → after a c g ≡ after a c h
+pub leaves : (a : Result Answer Refusal) (c : Counters) (g h : Header) → g ≡ h → after a c g ≡ after a c h
 leaves a c g h e = ap (after a c) e
 
 ended_spent : (t : State) (c : R.Counters) (h b : ℕ) → spent t h b ≡ true → round_ended t c h b ≡ out (A.Refused (A.EventBudgetExceeded b)) (closed t) c
@@ -80,10 +83,10 @@ module _ (h : Header) (c : Counters) (Q Z F : List ℕ) (top : SimTime) (u : Boo
   unfolding BudgetSpent
   spent_is E B b e = sym (sp E Q B firsts) ∙ e
 
-  pub ends_spent : u ≡ true → EndsRound h c Q Z (record { answer = P.EventBudgetExceeded h.budget; head = closed_header h; counters = c }) Z
+  pub ends_spent : u ≡ true → EndsRound h c Q Z (record { answer = Err (P.EventBudgetExceeded h.budget); head = closed_header h; counters = c }) Z
   ends_spent e = record { gives = λ E B q. sym (ended_spent (view h E Q Z B) (counters_of c) (ticks_of h.horizon) h.budget (spent_is E B true e)); moves = λ es. spent_moves h.budget }
 
-  pub ends_committed : u ≡ false → (Z' : List ℕ) (g : Header) → RefreshesHeader h Z F g Z' → EndsRound h c Q Z (record { answer = P.Committed g.gvt; head = g; counters = c }) Z'
+  pub ends_committed : u ≡ false → (Z' : List ℕ) (g : Header) → RefreshesHeader h Z F g Z' → EndsRound h c Q Z (record { answer = Ok (D.Committed g.gvt); head = g; counters = c }) Z'
   ends_committed e Z' g re = record {
     gives = λ E B q. (λ i. out (A.Committed (re.state E Q B q firsts i).gvt) (re.state E Q B q firsts i) (counters_of c))
         ∙ sym (ended_fresh (view h E Q Z B) (counters_of c) (ticks_of h.horizon) h.budget (spent_is E B false e));

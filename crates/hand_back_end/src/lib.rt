@@ -2,54 +2,50 @@
 
 #![tactic(auto)]
 
-ghost use Rattle.std.specs.Prelude.{◌≡◌, suc, ◌*◌, ◌≤◌, max, length};
+ghost use Rattle.std.specs.Prelude.{◌≡◌, suc, ◌*◌, ◌≤◌, length};
 ghost use Rattle.types.specs.Value.{ticks_of};
 ghost use Rattle.state.specs.Headers.{poisoned_header};
 ghost use Rattle.step_advance.specs.Refreshes.{CanRefresh};
 ghost use Rattle.hand_back_end.specs.EndsRound.{CountsRound, Poisons, RefreshesHeader, CanEndRound, EndsRound};
 
-use state::{Answer, CoreResult, Counters, Header};
+use state::{Answer, CoreResult, Counters, Header, Refusal};
 use step_advance::exclusive_horizon;
 use types::SimTime;
-
-fn max(a: u64, b: u64) -> u64
-    ensures { result ≡ max a b }
-{
-    if a < b { b } else { a }
-}
 
 // "Handled, emitted and remote grow by their counts, .. rounds by 1; the worker count is the largest
 // batch so far."
 pub fn count_round(counters: Counters, handled: u64, emitted: u64, remote: u64) -> Counters
     ensures { CountsRound counters handled emitted remote result }
 {
-    let mut c = counters;
-    c.processed_events = state::saturating_add(counters.processed_events, handled);
-    c.emitted_events = state::saturating_add(counters.emitted_events, emitted);
-    c.remote_events = state::saturating_add(counters.remote_events, remote);
-    c.rounds = state::saturating_add(counters.rounds, 1);
-    c.worker_count = max(counters.worker_count, handled);
-    c
+    Counters {
+        processed_events: state::saturating_add(counters.processed_events, handled),
+        emitted_events: state::saturating_add(counters.emitted_events, emitted),
+        remote_events: state::saturating_add(counters.remote_events, remote),
+        rounds: state::saturating_add(counters.rounds, 1),
+        worker_count: counters.worker_count.max(handled),
+        ..counters
+    }
 }
 
 // "the batch is lost, poisoned is set, all else stands".
 fn poisoned_header(head: Header) -> Header
     ensures { result ≡ poisoned_header head }
 {
-    let mut h = head;
-    h.batch = 0;
-    h.poisoned = true;
-    h
+    Header {
+        batch: 0,
+        poisoned: true,
+        ..head
+    }
 }
 
 // "'Poisoned' in the last column" of a refusal. Freed places are zero.
-pub fn poison(answer: Answer, head: Header, counters: Counters, batch: &mut [u64]) -> CoreResult
+pub fn poison(refusal: Refusal, head: Header, counters: Counters, batch: &mut [u64]) -> CoreResult
     requires { 8 * head.batch ≤ length batch.old }
-    ensures { Poisons answer head counters result }
+    ensures { Poisons refusal head counters result }
 {
     words::clear(batch, 0, 8 * head.batch);
     CoreResult {
-        answer: answer,
+        answer: Err(refusal),
         head: poisoned_header(head),
         counters: counters,
     }
@@ -61,10 +57,10 @@ fn refreshed(head: Header, processes: &mut [u64], first: &[u64], top: SimTime) -
     ensures { RefreshesHeader head processes.old first.now result processes.new }
 {
     let result = step_advance::refresh(head.n, head.gvt, processes, first, top);
-    let gvt = result.gvt;
-    let mut h = head;
-    h.gvt = gvt;
-    h
+    Header {
+        gvt: result.gvt,
+        ..head
+    }
 }
 
 // The round is counted and the batch gone: "Then 24 if used >= budget and an event is eligible,
@@ -83,18 +79,18 @@ pub fn end_round(
     let mut first = [0u64; 128];
     frontiers::first_ticks(pending, head.pending, head.n, top, &mut first);
     if step_advance::budget_spent(head, processes, &first, top) {
-        let mut h = head;
-        h.running = false;
         return CoreResult {
-            answer: Answer::EventBudgetExceeded(head.budget),
-            head: h,
+            answer: Err(Refusal::EventBudgetExceeded(head.budget)),
+            head: Header {
+                running: false,
+                ..head
+            },
             counters: counters,
         };
     }
     let h = refreshed(head, processes, &first, top);
-    let gvt = h.gvt;
     CoreResult {
-        answer: Answer::Committed(gvt),
+        answer: Ok(Answer::Committed(h.gvt)),
         head: h,
         counters: counters,
     }
