@@ -2,6 +2,7 @@
 use mathlib.Core.Path.{◌≡◌, refl, sym, ap, ◌∙◌}
 use mathlib.Core.Bool.{true, false, true≢false}
 use mathlib.Core.List.{List, []}
+use Rattle.std.specs.Prelude.{Ok, Err}
 use Prim.Native.Nat.{ℕ}
 use native.Mathlib.Omega.{arith}
 use Rattle.words.specs.Words.{tab}
@@ -10,7 +11,7 @@ use Rattle.rules.specs.Base.{if◌then◌otherwise◌, non_empty}
 use Rattle.rules.specs.State as R
 use Rattle.rules.specs.State.{Event, State, poison}
 use Rattle.rules.specs.Answers as A
-use Rattle.rules.specs.Rows.{unless, Out, out, refuse}
+use Rattle.rules.specs.Rows.{Row, unless, Out, out, refuse}
 use Rattle.rules.specs.Foreign.{foreign}
 use Rattle.rules.specs.History as H
 use Rattle.rules.specs.HandBack.{Emission, malformed, process_rows, hand_back_rows, messages, poison_with, commit_at, hand_back}
@@ -19,13 +20,13 @@ use Rattle.rules.proofs.Lists.{All}
 use Rattle.rules.proofs.Table.{none_decides, unless_append}
 use Rattle.rules.proofs.Shape.{shaped}
 use Rattle.rules.proofs.ShapeCalls.{Fit, fits}
-use Rattle.hand_back_emission.specs.declared.CheckResult.{CheckResult}
 use Rattle.hand_back_emission.specs.Checks.{ChecksRows}
 use Rattle.state.specs.declared.Header.{Header}
 use Rattle.state.specs.declared.Counters.{Counters}
 use Rattle.state.specs.declared.CoreResult.{CoreResult}
-use Rattle.state.specs.declared.Answer.TheVariants as P
-use Rattle.state.specs.View.{view, counters_of, answer_of}
+use Rattle.state.specs.declared.Refusal.{Refusal}
+use Rattle.state.specs.declared.Refusal.TheVariants as P
+use Rattle.state.specs.View.{view, counters_of, refusal_of}
 use Rattle.state.specs.AsGiven.{leaves_state_as_given}
 use Rattle.state.specs.ValidArrays.{ValidArrays}
 use Rattle.state.proofs.Facts.{some_events, no_events}
@@ -64,14 +65,14 @@ module _ (s : State) (c : R.Counters) (mask : ℕ) (xs : List Emission) (f : for
 
 -- A reply of the emissions xs, in whatever form they were lent.
 module _ (h : Header) (c : Counters) (E Q Z B : List ℕ) (mask : ℕ) (xs : List Emission) (l : ValidArrays h E Q Z B) where
-  pub back_poisoned : h.poisoned ≡ true → HandsBack h c E Q Z B mask xs (record { answer = P.Poisoned; head = h; counters = c }) Q Z B
+  pub back_poisoned : h.poisoned ≡ true → HandsBack h c E Q Z B mask xs (record { answer = Err P.Poisoned; head = h; counters = c }) Q Z B
   back_poisoned p = record {
     gives = sym (row_12 (view h E Q Z B) (counters_of c) mask xs l.passes p);
     kept = λ es x. record { same_head = refl; same_counters = refl; same_edges = refl; same_pending = refl; same_processes = refl; same_batch = refl };
   }
 
   module _ (p : h.poisoned ≡ false) where
-    pub back_empty : h.batch ≡ 0 → HandsBack h c E Q Z B mask xs (record { answer = P.NoBatch; head = h; counters = c }) Q Z B
+    pub back_empty : h.batch ≡ 0 → HandsBack h c E Q Z B mask xs (record { answer = Err P.NoBatch; head = h; counters = c }) Q Z B
     back_empty e = record {
       gives = sym (row_25 (view h E Q Z B) (counters_of c) mask xs l.passes p (none_is _ (no_events (event_at B) 0 h.batch (omega arith))));
       kept = λ es x. record { same_head = refl; same_counters = refl; same_edges = refl; same_pending = refl; same_processes = refl; same_batch = refl };
@@ -81,41 +82,52 @@ module _ (h : Header) (c : Counters) (E Q Z B : List ℕ) (mask : ℕ) (xs : Lis
       held : non_empty (events_of h.batch B) ≡ true
       held = some_events (event_at B) 0 h.batch (omega arith)
 
-      pub back_malformed : malformed (events_of h.batch B) mask xs ≡ true → HandsBack h c E Q Z B mask xs (record { answer = P.MalformedReply; head = h; counters = c }) Q Z B
+      pub back_malformed : malformed (events_of h.batch B) mask xs ≡ true → HandsBack h c E Q Z B mask xs (record { answer = Err P.MalformedReply; head = h; counters = c }) Q Z B
       back_malformed e = record {
         gives = sym (row-26 (view h E Q Z B) (counters_of c) mask xs l.passes p held e);
         kept = λ es x. record { same_head = refl; same_counters = refl; same_edges = refl; same_pending = refl; same_processes = refl; same_batch = refl };
       }
 
-      module _ (e : malformed (events_of h.batch B) mask xs ≡ false) (v : CheckResult) (verdict : ChecksRows (process_rows (view h E Q Z B) mask xs (events_of h.batch B)) v) where
-        refused : (d : Out) → v.passed ≡ false → (es : List Event) → unless (process_rows (view h E Q Z B) mask xs (events_of h.batch B)) (poison_with (view h E Q Z B) (counters_of c)) d ≡ out (answer_of es v.answer) (poison (view h E Q Z B)) (counters_of c)
-        refused d u es = verdict.refused u (view h E Q Z B) (counters_of c) d es
+      module _ (e : malformed (events_of h.batch B) mask xs ≡ false) where
+        abbrev rows : List Row
+        rows = process_rows (view h E Q Z B) mask xs (events_of h.batch B)
 
-        -- Its answer is none that leaves the state as given, as one that follows the rows.
-        lost : v.passed ≡ false → (es : List Event) → leaves_state_as_given (answer_of es v.answer) ≡ false
-        lost u es =
-            let d : Out = out (A.Committed 0) (view h E Q Z B) (counters_of c) in
-            ap (λ (o : Out). leaves_state_as_given o.answer) (sym (refused d u es))
-            ∙ lost_moves (view h E Q Z B) (view h E Q Z B) (counters_of c) mask xs (events_of h.batch B) d (committed_moves 0)
+        -- A row decides.
+        module _ (x : Refusal) (verdict : ChecksRows rows (Err x)) where
+          refused : (d : Out) → unless rows (poison_with (view h E Q Z B) (counters_of c)) d ≡ out (A.Refused (refusal_of x)) (poison (view h E Q Z B)) (counters_of c)
+          unfolding ChecksRows
+          refused d = verdict (view h E Q Z B) (counters_of c) d
 
-        pub back_lost : v.passed ≡ false → (r : CoreResult) (B' : List ℕ) → Poisons v.answer h c r → HandsBack h c E Q Z B mask xs r Q Z B'
-        unfolding tab
-        back_lost u r B' d = rw d (record {
-          gives = sym (judged (view h E Q Z B) (counters_of c) mask xs l.passes p held e ∙ refused (settled (view h E Q Z B) (counters_of c) xs) u []);
-          kept = λ es x. not_both x (lost u es);
-        })
+          -- Its answer is none that leaves the state as given, as one that follows the rows.
+          lost : leaves_state_as_given (A.Refused (refusal_of x)) ≡ false
+          lost =
+              let d : Out = out (A.Committed 0) (view h E Q Z B) (counters_of c) in
+              ap (λ (o : Out). leaves_state_as_given o.answer) (sym (refused d))
+              ∙ lost_moves (view h E Q Z B) (view h E Q Z B) (counters_of c) mask xs (events_of h.batch B) d (committed_moves 0)
+
+          pub back_lost : (r : CoreResult) (B' : List ℕ) → Poisons x h c r → HandsBack h c E Q Z B mask xs r Q Z B'
+          unfolding tab
+          back_lost r B' d = rw d (record {
+            gives = sym (judged (view h E Q Z B) (counters_of c) mask xs l.passes p held e ∙ refused (settled (view h E Q Z B) (counters_of c) xs));
+            kept = λ es y. not_both y lost;
+          })
 
         -- Where no row decides, the emissions may be queued.
-        fitting : v.passed ≡ true → All (Fit h.n) (messages xs)
-        unfolding H.refused
-        fitting u =
-            let s : State = view h E Q Z B in
-            let a : Out = out (A.Committed 0) s (counters_of c) in
-            fits s mask xs (shaped s l.passes) e (none_decides (process_rows s mask xs s.batch) (poison_with s (counters_of c)) a (λ r z. true≢false (ap (λ (o : Out). H.refused o.answer) z)) (verdict.passed u (poison_with s (counters_of c)) a))
+        module _ (verdict : ChecksRows rows (Ok tt)) where
+          none : (f : A.Refusal → Out) (d : Out) → unless rows f d ≡ d
+          unfolding ChecksRows
+          none = verdict
 
-        pub back_settled : v.passed ≡ true → (r : CoreResult) (Q' Z' B' : List ℕ) → Settles h c E Q Z B xs r Q' Z' B' → HandsBack h c E Q Z B mask xs r Q' Z' B'
-        back_settled u r Q' Z' B' d = record {
-          gives = d.gives (fitting u) ∙ sym (judged (view h E Q Z B) (counters_of c) mask xs l.passes p held e
-              ∙ verdict.passed u (poison_with (view h E Q Z B) (counters_of c)) (settled (view h E Q Z B) (counters_of c) xs));
-          kept = λ es x. not_both x (d.moves es);
-        }
+          fitting : All (Fit h.n) (messages xs)
+          unfolding H.refused
+          fitting =
+              let s : State = view h E Q Z B in
+              let a : Out = out (A.Committed 0) s (counters_of c) in
+              fits s mask xs (shaped s l.passes) e (none_decides (process_rows s mask xs s.batch) (poison_with s (counters_of c)) a (λ r z. true≢false (ap (λ (o : Out). H.refused o.answer) z)) (none (poison_with s (counters_of c)) a))
+
+          pub back_settled : (r : CoreResult) (Q' Z' B' : List ℕ) → Settles h c E Q Z B xs r Q' Z' B' → HandsBack h c E Q Z B mask xs r Q' Z' B'
+          back_settled r Q' Z' B' d = record {
+            gives = d.gives fitting ∙ sym (judged (view h E Q Z B) (counters_of c) mask xs l.passes p held e
+                ∙ none (poison_with (view h E Q Z B) (counters_of c)) (settled (view h E Q Z B) (counters_of c) xs));
+            kept = λ es y. not_both y (d.moves es);
+          }

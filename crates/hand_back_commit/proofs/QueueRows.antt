@@ -26,7 +26,7 @@ use Rattle.rules.proofs.Tally.{length_messages}
 use Rattle.state.specs.declared.Header.{Header}
 use Rattle.state.specs.declared.Counters.{Counters}
 use Rattle.state.specs.declared.CoreResult.{CoreResult}
-use Rattle.state.specs.declared.Answer.TheVariants as P
+use Rattle.state.specs.declared.Refusal.TheVariants as P
 use Rattle.state.specs.View.{view, counters_of, answer_of}
 use Rattle.state.specs.Headers.{committed_header}
 use Rattle.state.specs.AsGiven.{leaves_state_as_given}

@@ -1,20 +1,20 @@
 -- What the end of a reply asks and leaves, in the words of the rules.
-use Rattle.std.specs.Prelude.{◌≡◌, Bool, true, false, List, ℕ, ◌+◌, ◌-◌, ◌*◌, ◌^◌, ◌≤◌, ◌<◌, ltb, length}
+use Rattle.std.specs.Prelude.{◌≡◌, false, List, ℕ, ◌+◌, ◌-◌, ◌*◌, ◌^◌, ◌≤◌, ◌<◌, ltb, length, Option, Some, None, Result, Ok, Err, MatchResult}
+use Rattle.types.specs.declared.LpId.{LpId}
 use Rattle.types.specs.Value.{ticks_of}
 use Rattle.rules.specs.Base.{if◌then◌otherwise◌, count}
 use Rattle.rules.specs.State.{saturating_add, max_count, max_pending}
 use Rattle.rules.specs.Pending.{queue}
 use Rattle.rules.specs.HandBack.{Emission, malformed, messages, is_remote}
 use Rattle.records.specs.Records.{events_of}
-use Rattle.hand_back_emission.specs.declared.CheckResult.{CheckResult}
 use Rattle.hand_back_emission.specs.Checks.{ChecksRows}
 use Rattle.hand_back_check.specs.declared.ReplyCheck.{ReplyCheck}
 use Rattle.hand_back_check.specs.EmissionRows.{first_failed, rows_up_to}
 use Rattle.hand_back_end.specs.EndsRound.{Poisons}
 use Rattle.state.specs.declared.Header.{Header}
 use Rattle.state.specs.declared.Counters.{Counters}
-use Rattle.state.specs.declared.Answer.{Answer}
-use Rattle.state.specs.declared.Answer.TheVariants as P
+use Rattle.state.specs.declared.Refusal.{Refusal}
+use Rattle.state.specs.declared.Refusal.TheVariants as P
 use Rattle.state.specs.declared.CoreResult.{CoreResult}
 use Rattle.state.specs.View.{view}
 use Rattle.state.specs.ValidArrays.{ValidArrays}
@@ -43,29 +43,27 @@ pub record Fits (next pending k : ℕ) : Type 0 where
   pub in_time : next + k ≤ 18446744073709551615
   pub room : pending + k ≤ 512
 
--- The answer of 27, 19 and 18.
-unfoldable pub refusal_of : ℕ → ℕ → ℕ → ℕ → Answer
-refusal_of failed next pending k =
-    if ltb failed 64 then P.HandlerFailed (record { 0 = failed })
-    otherwise if ltb max_count (next + k) then P.EventSequenceOverflow
-    otherwise if ltb max_pending (pending + k) then P.QueueFull
-    otherwise P.Accepted
-
--- Whether an answer is Accepted.
-pub record Accepts (a : Answer) (b : Bool) : Type 0 where
-  pub is : b ≡ true → a ≡ P.Accepted
-  pub is_not : b ≡ false → a ≡ P.Accepted → ⊥
+-- What 27, 19 and 18 say.
+unfoldable pub refusal_of : Option LpId → ℕ → ℕ → ℕ → Result (Unit {0}) Refusal
+refusal_of (Some p) next pending k = Err (P.HandlerFailed p)
+refusal_of None next pending k =
+    if ltb max_count (next + k) then Err P.EventSequenceOverflow
+    otherwise if ltb max_pending (pending + k) then Err P.QueueFull
+    otherwise Ok tt
 
 -- a's rows passed, and no process failed.
 pub record Passes (a : ReplyCheck) : Type 0 where
-  pub passed : a.outcome.passed ≡ true
-  pub none_failed : 64 ≤ a.failed
+  pub passed : a.outcome ≡ Ok tt
+  pub none_failed : a.failed ≡ None
 
--- The check v with 27, 19 and 18 behind the rows that a's is of: where it refuses, the round is lost with its answer.
-pub record FinalCheck (a : ReplyCheck) (next pending k : ℕ) (v : CheckResult) : Type 0 where
-  pub passes : v.passed ≡ true → Passes a × Fits next pending k
-  pub loses : v.passed ≡ false → (h : Header) (c : Counters) (edges pend processes batch : List ℕ) (r : CoreResult) (batch' : List ℕ) → h.next ≡ next → h.pending ≡ pending
-      → InHand h edges pend processes batch → Poisons v.answer h c r → Finishes h c edges pend processes batch a k r pend processes batch'
+-- The round is lost with the refusal x.
+abbrev pub LosesRound : ReplyCheck → ℕ → ℕ → ℕ → Refusal → Type 0
+LosesRound a next pending k x = (h : Header) (c : Counters) (edges pend processes batch : List ℕ) (r : CoreResult) (batch' : List ℕ) → h.next ≡ next → h.pending ≡ pending
+    → InHand h edges pend processes batch → Poisons x h c r → Finishes h c edges pend processes batch a k r pend processes batch'
+
+-- The check v with 27, 19 and 18 behind the rows that a's is of: where it refuses, the round is lost with its refusal.
+abbrev pub FinalCheck : ReplyCheck → ℕ → ℕ → ℕ → Result (Unit {0}) Refusal → Type 0
+FinalCheck a next pending k v = MatchResult v (λ _. Passes a × Fits next pending k) (LosesRound a next pending k)
 
 -- What the end of a round of k emissions asks, with these queued.
 pub record CanEnd (h : Header) (pending processes batch : List ℕ) (k : ℕ) : Type 0 where

@@ -6,51 +6,34 @@
 ghost use Rattle.std.specs.Prelude.{◌≡◌, ◌+◌, ◌*◌, ◌≤◌, length};
 ghost use Rattle.rules.specs.State.{saturating_add};
 ghost use Rattle.state.specs.Headers.{committed_header};
-ghost use Rattle.hand_back_commit.specs.Commits.{refusal_of, Accepts, FinalCheck, CanEnd, Ends};
+ghost use Rattle.hand_back_commit.specs.Commits.{refusal_of, FinalCheck, CanEnd, Ends};
 
 use hand_back_check::ReplyCheck;
-use hand_back_emission::CheckResult;
-use state::{Answer, CoreResult, Counters, Header};
-use types::{LpId, MAX_PROCESSES};
+use state::{CoreResult, Counters, Header, Refusal};
+use types::LpId;
 
-// 27 of a process that failed, then 19 and 18; Accepted where none refuses.
-fn refusal(failed: u64, next: u64, pending: usize, emitted: usize) -> Answer
+// 27 of a process that failed, then 19 and 18.
+fn refusal(failed: Option<LpId>, next: u64, pending: usize, emitted: usize) -> Result<(), Refusal>
     ensures { result ≡ refusal_of failed next pending emitted }
 {
-    if failed < MAX_PROCESSES {
-        return Answer::HandlerFailed(LpId::from_word(failed));
+    if let Some(p) = failed {
+        return Err(Refusal::HandlerFailed(p));
     }
     if state::sequence_exhausted(next, emitted as u64) {
-        return Answer::EventSequenceOverflow;
+        return Err(Refusal::EventSequenceOverflow);
     }
     if state::is_queue_full(pending, emitted) {
-        return Answer::QueueFull;
+        return Err(Refusal::QueueFull);
     }
-    Answer::Accepted
-}
-
-pub fn is_accepted(answer: Answer) -> bool
-    ensures { Accepts answer result }
-{
-    if let Answer::Accepted = answer {
-        return true;
-    }
-    false
+    Ok(())
 }
 
 // What 27 to 33 say of a reply of so many emissions, and then 19 and 18.
-pub fn final_check(a: ReplyCheck, next: u64, pending: usize, emitted: usize) -> CheckResult
+pub fn final_check(a: ReplyCheck, next: u64, pending: usize, emitted: usize) -> Result<(), Refusal>
     ensures { FinalCheck a next pending emitted result }
 {
-    let so_far = a.outcome;
-    if !so_far.passed {
-        return so_far;
-    }
-    let answer = refusal(a.failed, next, pending, emitted);
-    CheckResult {
-        passed: is_accepted(answer),
-        answer: answer,
-    }
+    a.outcome?;
+    refusal(a.failed, next, pending, emitted)
 }
 
 // The batch is handled, and used grows by it; so many emissions more are pending. Freed places are
@@ -60,12 +43,13 @@ fn handle(head: Header, batch: &mut [u64], emitted: usize) -> Header
     ensures { result ≡ committed_header head emitted (saturating_add head.used head.batch) }
 {
     words::clear(batch, 0, 8 * head.batch);
-    let mut h = head;
-    h.pending = head.pending + emitted;
-    h.next = head.next + emitted as u64;
-    h.used = state::saturating_add(head.used, head.batch as u64);
-    h.batch = 0;
-    h
+    Header {
+        pending: head.pending + emitted,
+        next: head.next + emitted as u64,
+        used: state::saturating_add(head.used, head.batch as u64),
+        batch: 0,
+        ..head
+    }
 }
 
 // The round, whose emissions are queued, is counted and ended.

@@ -1,10 +1,11 @@
-use Rattle.rules.proofs.Tests.{not_true, not_false}
+use Rattle.std.proofs.lemmas.Result.{err_from_is_err_and}
 use Rattle.hand_back_commit.proofs.Ending.{last_refused, last_said}
 use Rattle.hand_back_commit.proofs.final_check.Goals as goal
 
-pub returns-then-not-so_far : goal.returns-then-not-so_far
-returns-then-not-so_far c = last_refused c.args.a _ _ _ (not_true _ c.if-not-so_far.true)
+pub returns-in_err-a : goal.returns-in_err-a
+returns-in_err-a c =
+    let p = err_from_is_err_and c.from_residual.result c.from_residual.ensures.1 in
+    rw (p.1, p.2) (last_refused c.args.a _ _ _ _ c.in_err-a.was)
 
 pub returns : goal.returns
-returns c =
-    last_said c.args.a _ _ _ (not_false _ c.if-not-so_far.false) _ c.refusal-answer.result c.refusal-answer.ensures c.is_accepted.ensures
+returns c = last_said c.args.a _ _ _ c.in_ok-a.was c.refusal.result c.refusal.ensures

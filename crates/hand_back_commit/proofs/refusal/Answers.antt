@@ -1,8 +1,8 @@
 use Rattle.hand_back_commit.proofs.Ending.{refusal_27, refusal_19, refusal_18, refusal_none}
 use Rattle.hand_back_commit.proofs.refusal.Goals as goal
 
-pub returns-then-failed-lt-MAX_PROCESSES : goal.returns-then-failed-lt-MAX_PROCESSES
-returns-then-failed-lt-MAX_PROCESSES c = search refusal_27 depth 1
+pub returns-in-Some : goal.returns-in-Some
+returns-in-Some c = refusal_27 c.args.failed _ _ _ c.in-Some.p c.in-Some.is
 
 pub returns-then-sequence_exhausted : goal.returns-then-sequence_exhausted
 returns-then-sequence_exhausted c = search refusal_19 depth 1
