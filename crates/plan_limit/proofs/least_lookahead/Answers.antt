@@ -1,6 +1,6 @@
 use Rattle.plan_limit.proofs.least_lookahead.Goals as goal
 -- `plan_limit::least_lookahead` meets its contract.
-use Rattle.std.proofs.Common.{arith, sym, ◌∙◌}
+use Rattle.std.proofs.Common.{arith, rules, sym, ◌∙◌}
 use Rattle.types.specs.Value.{ticks_of}
 use Rattle.plan_limit.proofs.Leasts.{some_edge, least_first, least_more, least_end}
 
@@ -8,8 +8,7 @@ pub loop-i-init : goal.loop-i-init
 loop-i-init c = least_first _ _ _ c.tick_in-least.ensures
 
 pub loop-i-preserved : goal.loop-i-preserved
-loop-i-preserved c =
-    least_more _ _ (ticks_of c.loop-i.least) c.loop-i.i _ _ _ (omega arith) c.tick_in.ensures c.min-least.ensures c.loop-i.invariant
+loop-i-preserved c = search (rules, least_more)
 
 pub returns : goal.returns
 returns c =
