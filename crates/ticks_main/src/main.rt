@@ -3,18 +3,20 @@
 
 #![tactic(auto)]
 
-use types::{Added, SimDuration, SimTime};
+use types::{SimDuration, SimTime};
 
 // The descriptor of standard output.
 const STDOUT_FILENO: i32 = 1;
 
-// The edges of a half: 2^64 - 1 and 2^64.
-fn below_carry() -> SimTime {
-    SimTime::from_ticks(0, 18446744073709551615)
-}
-
-fn at_carry() -> SimTime {
-    SimTime::from_ticks(1, 0)
+// The edges of the range, and of a half: 2^64 - 1 and 2^64.
+fn edges() -> [SimTime; 5] {
+    [
+        SimTime::ZERO,
+        SimTime::from_ticks(0, u64::MAX),
+        SimTime::from_ticks(1, 0),
+        SimTime::MAX.one_less(),
+        SimTime::MAX,
+    ]
 }
 
 // The duration from tick 0 to t.
@@ -27,21 +29,18 @@ fn print_tick(t: SimTime) {
     io::print_hex(STDOUT_FILENO, t.lo, 16);
 }
 
-fn print_sum(sum: Added) {
+fn print_sum(sum: Option<SimTime>) {
     match sum {
-        Added::Sum(t) => print_tick(t),
-        Added::Overflow => {
+        Some(t) => print_tick(t),
+        None => {
             io::write_all(STDOUT_FILENO, b"overflow");
         }
     }
 }
 
 fn print_flag(flag: bool) {
-    if flag {
-        io::write_all(STDOUT_FILENO, b"yes");
-    } else {
-        io::write_all(STDOUT_FILENO, b"no");
-    }
+    let text: &[u8] = if flag { b"yes" } else { b"no" };
+    io::write_all(STDOUT_FILENO, text);
 }
 
 fn print_pair(a: SimTime, b: SimTime) {
@@ -69,17 +68,13 @@ fn print_edge(a: SimTime) {
     io::write_all(STDOUT_FILENO, b" no duration ");
     print_flag(since_zero(a).is_zero());
     io::write_all(STDOUT_FILENO, b"\n");
-    print_pair(a, SimTime::ZERO);
-    print_pair(a, below_carry());
-    print_pair(a, at_carry());
-    print_pair(a, SimTime::MAX.one_less());
-    print_pair(a, SimTime::MAX);
+    for b in edges() {
+        print_pair(a, b);
+    }
 }
 
 fn main() {
-    print_edge(SimTime::ZERO);
-    print_edge(below_carry());
-    print_edge(at_carry());
-    print_edge(SimTime::MAX.one_less());
-    print_edge(SimTime::MAX);
+    for a in edges() {
+        print_edge(a);
+    }
 }
