@@ -3,7 +3,7 @@
 
 #![tactic(auto)]
 
-ghost use Rattle.std.specs.Prelude.{◌≤◌, IfSome};
+ghost use Rattle.std.specs.Prelude.{◌≡◌, ◌*◌, ◌≤◌, IfSome, length};
 
 use call_words::{ADD_INITIAL, BEGIN, HAND_BACK, MAX_ITEMS};
 use state::{Counters, Header, Runtime};
@@ -38,7 +38,9 @@ fn read_all(words: &mut [u64]) -> Option<()> {
 }
 
 // So many things of `width` words to the front of these, where they have room; how many came.
-fn read_things(words: &mut [u64], width: usize, count: u64) -> Option<usize> {
+fn read_things(words: &mut [u64], width: usize, count: u64) -> Option<usize>
+    ensures { IfSome result (λ n. (n ≡ count) × (n * width ≤ length words.old)) }
+{
     let things = count as usize;
     let end = things.checked_mul(width)?;
     read_all(words.get_mut(..end)?)?;
@@ -46,7 +48,9 @@ fn read_things(words: &mut [u64], width: usize, count: u64) -> Option<usize> {
 }
 
 // A number, and so many things of `width` words to the front of these; how many came.
-pub fn read_list(words: &mut [u64], width: usize) -> Option<usize> {
+pub fn read_list(words: &mut [u64], width: usize) -> Option<usize>
+    ensures { IfSome result (λ n. n ≤ 4096) }
+{
     let count = text_input::read_word(STDIN_FILENO)?;
     if MAX_ITEMS < count {
         return None;
@@ -55,7 +59,9 @@ pub fn read_list(words: &mut [u64], width: usize) -> Option<usize> {
 }
 
 // A number of words, and these words to the front of w, which holds them; how many came.
-pub fn read_array(w: &mut [u64]) -> Option<usize> {
+pub fn read_array(w: &mut [u64]) -> Option<usize>
+    ensures { IfSome result (λ n. n ≤ length w.old) }
+{
     let count = text_input::read_word(STDIN_FILENO)?;
     read_things(w, 1, count)
 }
