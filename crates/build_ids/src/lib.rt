@@ -30,6 +30,9 @@ pub fn rising(xs: &[u32]) -> bool
     xs.is_sorted_by(|x, y| x < y)
 }
 
+// Kept as clauses: RisingIds asks that n is at most 64 of a plain number, since docs/WHERE.md names the
+// functions that ask it, and they may take no narrower type.
+
 // 4, of ids that rise: the numbers below n are looked for in turn, each where the last one ended.
 pub fn check_ids(ids: &[u32], n: u64) -> IdMismatch
     requires { RisingIds n ids.now }
