@@ -1,5 +1,5 @@
 -- What the parts of hand back ask and answer, in whatever form a reply is lent.
-use Rattle.std.specs.Prelude.{◌≡◌, true, false, List, ℕ, ◌*◌, ◌/◌, ◌^◌, ◌-◌, ◌≤◌, ◌<◌, leb, length}
+use Rattle.std.specs.Prelude.{◌≡◌, true, false, List, ℕ, ◌*◌, ◌/◌, ◌^◌, ◌-◌, ◌≤◌, ◌<◌, leb, length, Result, Err, MatchResult}
 use Rattle.types.specs.Value.{ticks_of}
 use Rattle.records.specs.Records.{edges_of, events_of, Owners}
 use Rattle.rules.specs.Base.{any, rising}
@@ -13,7 +13,7 @@ use Rattle.hand_back_check.specs.EmissionRows.{first_failed}
 use Rattle.hand_back_check.specs.Checks.{start_of}
 use Rattle.state.specs.declared.Header.{Header}
 use Rattle.state.specs.declared.Counters.{Counters}
-use Rattle.state.specs.declared.Answer.{Answer}
+use Rattle.state.specs.declared.Refusal.{Refusal}
 use Rattle.state.specs.declared.CoreResult.{CoreResult}
 use Rattle.state.specs.ValidArrays.{ValidArrays}
 use Rattle.state.specs.RefusalOr.{RefusalOr}
@@ -24,9 +24,9 @@ use Rattle.hand_back_commit.specs.Commits.{InHand, ReplyChecked}
 abbrev pub replied_of : List ℕ → List Emission
 replied_of w = emissions_of (length w / 8) w
 
--- The call is refused with the answer that its check came to, all as given.
-abbrev pub as_given_to : Header → Counters → ReplyCheck → CoreResult
-as_given_to h c a = record { answer = a.outcome.answer; head = h; counters = c }
+-- The call is refused, all as given.
+abbrev pub as_given_to : Header → Counters → Refusal → CoreResult
+as_given_to h c x = record { answer = Err x; head = h; counters = c }
 
 -- 12 and 25 let the call pass.
 pub record Passed (h : Header) : Type 0 where
@@ -34,8 +34,8 @@ pub record Passed (h : Header) : Type 0 where
   pub in_hand_holds : h.batch ≡ 0 → ⊥
 
 -- What 12 and 25 answer, whatever the reply, the arrays and the counters are.
-abbrev pub EarlyRows : Header → Answer → Type 0
-EarlyRows h a = RefusalOr a (Passed h) ((c : Counters) (mask : ℕ) (xs : List Emission) (E P Z B : List ℕ) → ValidArrays h E P Z B → HandsBack h c E P Z B mask xs (record { answer = a; head = h; counters = c }) P Z B)
+abbrev pub EarlyRows : Header → Result (Unit {0}) Refusal → Type 0
+EarlyRows h r = RefusalOr r (Passed h) (λ x. (c : Counters) (mask : ℕ) (xs : List Emission) (E P Z B : List ℕ) → ValidArrays h E P Z B → HandsBack h c E P Z B mask xs (as_given_to h c x) P Z B)
 
 -- What the tables of edges and places are made of, in a state that 11 let pass.
 pub record Ready (h : Header) (edges batch : List ℕ) : Type 0 where
@@ -57,9 +57,9 @@ pub record Started (h : Header) (batch : List ℕ) (mask : ℕ) (a : ReplyCheck)
   pub place_words : length T ≡ 64
 
 -- Or one of them refuses, whatever is emitted.
-pub record Begins (h : Header) (batch : List ℕ) (mask : ℕ) (a : ReplyCheck) (T : List ℕ) : Type 0 where
-  pub refused : a.going ≡ false → (c : Counters) (xs : List Emission) (E P Z : List ℕ) → ValidArrays h E P Z batch → HandsBack h c E P Z batch mask xs (as_given_to h c a) P Z batch
-  pub started : a.going ≡ true → Started h batch mask a T
+abbrev pub Begins : Header → List ℕ → ℕ → Result ReplyCheck Refusal → List ℕ → Type 0
+Begins h batch mask r T = MatchResult r (λ a. Started h batch mask a T)
+    (λ x. (c : Counters) (xs : List Emission) (E P Z : List ℕ) → ValidArrays h E P Z batch → HandsBack h c E P Z batch mask xs (as_given_to h c x) P Z batch)
 
 -- What the check of emissions asks, with a table that has rows for n events: it has started.
 pub record CanReview (h : Header) (edges processes batch : List ℕ) (a : ReplyCheck) (T : List ℕ) (n : ℕ) : Type 0 where
@@ -69,11 +69,15 @@ pub record CanReview (h : Header) (edges processes batch : List ℕ) (a : ReplyC
   pub started : Started h batch a.mask a T
   pub rows : h.batch ≤ n
 
--- The emissions xs are checked: the call is refused with all as given, or its round is queued or lost.
-pub record ChecksReply (h : Header) (edges processes batch : List ℕ) (mask : ℕ) (xs : List Emission) (a : ReplyCheck) : Type 0 where
-  pub refused : a.going ≡ false → (c : Counters) (P : List ℕ) → ValidArrays h edges P processes batch → HandsBack h c edges P processes batch mask xs (as_given_to h c a) P processes batch
-  pub passed : a.going ≡ true → Passed h
-  pub checked : a.going ≡ true → (P : List ℕ) → ReplyChecked h edges P processes batch a mask (length xs) xs
+-- The emissions xs are checked, and a says how far: the reply is not malformed.
+pub record LetsPass (h : Header) (edges processes batch : List ℕ) (mask : ℕ) (xs : List Emission) (a : ReplyCheck) : Type 0 where
+  pub passed : Passed h
+  pub checked : (P : List ℕ) → ReplyChecked h edges P processes batch a mask (length xs) xs
+
+-- Or the call is refused with all as given.
+abbrev pub ChecksReply : Header → List ℕ → List ℕ → List ℕ → ℕ → List Emission → Result ReplyCheck Refusal → Type 0
+ChecksReply h edges processes batch mask xs r = MatchResult r (LetsPass h edges processes batch mask xs)
+    (λ x. (c : Counters) (P : List ℕ) → ValidArrays h edges P processes batch → HandsBack h c edges P processes batch mask xs (as_given_to h c x) P processes batch)
 
 -- What the end of a reply asks of the header and of what it is lent: a batch in hand, in a state that 11 let pass.
 pub record CanCommit (h : Header) (pending processes batch : List ℕ) : Type 0 where

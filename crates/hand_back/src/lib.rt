@@ -13,42 +13,43 @@ ghost use Rattle.hand_back.specs.ReplyChecks.{replied_of, EarlyRows, Ready, Begi
 
 use hand_back_check::ReplyCheck;
 use hand_back_enqueue::Tail;
-use state::{Answer, CoreResult, Counters, Header};
+use state::{CoreResult, Counters, Header, Refusal};
 
 // Rows 12 and 25.
-fn refusal(head: Header) -> Answer
+fn refusal(head: Header) -> Result<(), Refusal>
     ensures { EarlyRows head result }
 {
     if head.poisoned {
-        return Answer::Poisoned;
+        return Err(Refusal::Poisoned);
     }
     if head.batch == 0 {
-        return Answer::NoBatch;
+        return Err(Refusal::NoBatch);
     }
-    Answer::Accepted
+    Ok(())
 }
 
 // Rows 12 and 25, and 26 of the mask; where none refuses, the place of each process's event is found.
-pub fn begin_check(head: Header, batch: &[u64], mask: u64, places: &mut [u64]) -> ReplyCheck
+pub fn begin_check(
+    head: Header,
+    batch: &[u64],
+    mask: u64,
+    places: &mut [u64],
+) -> Result<ReplyCheck, Refusal>
     requires { (head.batch ≤ 64) × (8 * head.batch ≤ length batch.now) × Owners head.batch batch.now × (places.old ≡ zeroes 64) }
     ensures { Begins head batch.now mask result places.new }
 {
-    let failed = hand_back_check::first_failed(batch, head.batch, mask);
-    let start = hand_back_check::start(mask, failed);
-    let answer = refusal(head);
-    if !hand_back_commit::is_accepted(answer) {
-        return hand_back_check::refuse(start, answer);
-    }
+    refusal(head)?;
     reply_words::find_places(batch, head.batch, places);
     if reply_words::failed_not_in_batch(mask, places) {
-        return hand_back_check::refuse(start, Answer::MalformedReply);
+        return Err(Refusal::MalformedReply);
     }
-    start
+    let failed = hand_back_check::first_failed(batch, head.batch, mask);
+    Ok(hand_back_check::start(mask, failed))
 }
 
-// The emissions of a reply in words, with two events in hand at most. Its table is made for each reply,
-// and a small one is cleared sooner.
-fn review_two<'a>(
+// The emissions of a reply in words, by a table of so many words, 64 for each event in hand. It is made
+// for each reply, and a small one is cleared sooner.
+fn review_with<'a, const WORDS: usize>(
     head: Header,
     edges: &'a [u64],
     places: &'a [u64],
@@ -57,60 +58,19 @@ fn review_two<'a>(
     start: ReplyCheck,
     reply: &'a [u64],
     count: usize,
-) -> ReplyCheck
-    requires { CanReview head edges.now processes.now batch.now start places.now 2 × (8 * count ≤ length reply.now) }
+) -> Result<ReplyCheck, Refusal>
+    requires { (WORDS ≤ 4096) × CanReview head edges.now processes.now batch.now start places.now (WORDS / 64) × (8 * count ≤ length reply.now) }
     ensures { ChecksReply head edges.now processes.now batch.now start.mask (emissions_of count reply.now) result }
 {
-    let mut table = [0u16; 128];
+    let mut table = [0u16; WORDS];
     hand_back_edges::find_edges(edges, head.edges, places, &mut table);
     hand_back_check::check_words(
         head, edges, &table, places, processes, batch, start, reply, count,
     )
 }
 
-// The same with 16 events in hand at most.
-fn review_sixteen<'a>(
-    head: Header,
-    edges: &'a [u64],
-    places: &'a [u64],
-    processes: &'a [u64],
-    batch: &'a [u64],
-    start: ReplyCheck,
-    reply: &'a [u64],
-    count: usize,
-) -> ReplyCheck
-    requires { CanReview head edges.now processes.now batch.now start places.now 16 × (8 * count ≤ length reply.now) }
-    ensures { ChecksReply head edges.now processes.now batch.now start.mask (emissions_of count reply.now) result }
-{
-    let mut table = [0u16; 1024];
-    hand_back_edges::find_edges(edges, head.edges, places, &mut table);
-    hand_back_check::check_words(
-        head, edges, &table, places, processes, batch, start, reply, count,
-    )
-}
-
-// The same with any number of events in hand.
-fn review_all<'a>(
-    head: Header,
-    edges: &'a [u64],
-    places: &'a [u64],
-    processes: &'a [u64],
-    batch: &'a [u64],
-    start: ReplyCheck,
-    reply: &'a [u64],
-    count: usize,
-) -> ReplyCheck
-    requires { CanReview head edges.now processes.now batch.now start places.now 64 × (8 * count ≤ length reply.now) }
-    ensures { ChecksReply head edges.now processes.now batch.now start.mask (emissions_of count reply.now) result }
-{
-    let mut table = [0u16; 4096];
-    hand_back_edges::find_edges(edges, head.edges, places, &mut table);
-    hand_back_check::check_words(
-        head, edges, &table, places, processes, batch, start, reply, count,
-    )
-}
-
-// The emissions of a reply in words, by the smallest table that has a row for each event in hand.
+// The emissions of a reply in words, by the smallest table that has a row for each event in hand: of 2,
+// 16 or 64 rows.
 fn review<'a>(
     head: Header,
     edges: &'a [u64],
@@ -120,17 +80,17 @@ fn review<'a>(
     start: ReplyCheck,
     reply: &'a [u64],
     count: usize,
-) -> ReplyCheck
+) -> Result<ReplyCheck, Refusal>
     requires { CanReview head edges.now processes.now batch.now start places.now 64 × (8 * count ≤ length reply.now) }
     ensures { ChecksReply head edges.now processes.now batch.now start.mask (emissions_of count reply.now) result }
 {
     if head.batch <= 2 {
-        return review_two(head, edges, places, processes, batch, start, reply, count);
+        return review_with::<128>(head, edges, places, processes, batch, start, reply, count);
     }
     if head.batch <= 16 {
-        return review_sixteen(head, edges, places, processes, batch, start, reply, count);
+        return review_with::<1024>(head, edges, places, processes, batch, start, reply, count);
     }
-    review_all(head, edges, places, processes, batch, start, reply, count)
+    review_with::<4096>(head, edges, places, processes, batch, start, reply, count)
 }
 
 // The check of a reply in words. Edges are read for emissions alone: a reply without any does not walk
@@ -142,27 +102,25 @@ fn check_reply<'a>(
     batch: &'a [u64],
     mask: u64,
     reply: &'a [u64],
-) -> ReplyCheck
+) -> Result<ReplyCheck, Refusal>
     requires { Ready head edges.now batch.now × (length processes.now ≡ 256) × (length batch.now ≡ 512) }
     ensures { ChecksReply head edges.now processes.now batch.now mask (replied_of reply.now) result }
 {
     let mut places = [0u64; 64];
-    let start = begin_check(head, batch, mask, &mut places);
+    let start = begin_check(head, batch, mask, &mut places)?;
     let count = reply.len() / 8;
-    if !start.going || count == 0 {
-        return start;
+    if count == 0 {
+        return Ok(start);
     }
     review(head, edges, &places, processes, batch, start, reply, count)
 }
 
 // The refusals that leave the state as given.
-fn as_given(head: Header, counters: Counters, check: ReplyCheck) -> CoreResult
-    ensures { result ≡ as_given_to head counters check }
+fn as_given(head: Header, counters: Counters, refusal: Refusal) -> CoreResult
+    ensures { result ≡ as_given_to head counters refusal }
 {
-    let verdict = check.outcome;
-    let answer = verdict.answer;
     CoreResult {
-        answer: answer,
+        answer: Err(refusal),
         head: head,
         counters: counters,
     }
@@ -183,24 +141,23 @@ fn commit(
 {
     let emitted = reply.len() / 8;
     let verdict = hand_back_commit::final_check(check, head.next, head.pending, emitted);
-    if verdict.passed {
-        let tail = Tail {
-            count: head.pending,
-            next: head.next,
-        };
-        hand_back_enqueue::enqueue_words(pending, tail, reply, emitted);
-        return hand_back_commit::commit_round(
-            head,
-            counters,
-            pending,
-            processes,
-            batch,
-            check.remote,
-            emitted,
-        );
+    if let Err(refusal) = verdict {
+        return hand_back_end::poison(refusal, head, counters, batch);
     }
-    let answer = verdict.answer;
-    hand_back_end::poison(answer, head, counters, batch)
+    let tail = Tail {
+        count: head.pending,
+        next: head.next,
+    };
+    hand_back_enqueue::enqueue_words(pending, tail, reply, emitted);
+    hand_back_commit::commit_round(
+        head,
+        counters,
+        pending,
+        processes,
+        batch,
+        check.remote,
+        emitted,
+    )
 }
 
 // The reply has eight words to an emission; words that make no whole one are passed over.
@@ -217,9 +174,8 @@ pub fn hand_back<'a>(
     requires { ValidArrays head edges.now pending.old processes.old batch.old }
     ensures { HandsBack head counters edges.now pending.old processes.old batch.old mask (emissions_of (length reply.now / 8) reply.now) result pending.new processes.new batch.new }
 {
-    let check = check_reply(head, edges, processes, batch, mask, reply);
-    if !check.going {
-        return as_given(head, counters, check);
+    match check_reply(head, edges, processes, batch, mask, reply) {
+        Ok(check) => commit(head, counters, pending, processes, batch, check, reply),
+        Err(refusal) => as_given(head, counters, refusal),
     }
-    commit(head, counters, pending, processes, batch, check, reply)
 }
