@@ -2,35 +2,33 @@
 use mathlib.Core.Path.{◌≡◌, refl, sym, ap, ◌∙◌}
 use mathlib.Core.Bool.{Bool, true, false}
 use mathlib.Core.List.{List, [], ◌∷◌, ◌++◌}
-use Prim.Native.Nat.{ℕ, zero, suc, ◌+◌, ◌≤◌, ◌<◌}
+use Prim.Native.Nat.{ℕ, zero, suc, ◌+◌, ◌<◌}
 use native.Mathlib.Omega.{arith}
 use native.Mathlib.Numerals.{add-one}
 use lib.Dec.{leb}
 use lib.ListN.{length, take, get_or, set}
 use lib.Seq.{take-suc-set}
-use borrow.Author.Tests.{le-leb, lt-leb}
-use Rattle.std.specs.Bool.{MatchBool}
-use Rattle.std.specs.List.Sorted.{IsNonDecreasing}
-use Rattle.rules.proofs.Tests.{by_bool}
+use Rattle.std.specs.List.{IsAllAdjacentAnswer}
+use Rattle.rules.proofs.Tests.{by_bool, and_off}
 use Rattle.rules.specs.Base.{up_from, up_to, rising}
 
--- Whether each number is at least the one before it, as is_sorted answers it.
-rising_all : (xs : List ℕ) → ((k : ℕ) → suc k < length xs → get_or xs k 0 ≤ get_or xs (suc k) 0) → rising leb xs ≡ true
+-- Whether each number is at least the one before it, as is_sorted_by answers it.
+rising_all : (xs : List ℕ) → ((k : ℕ) → suc k < length xs → leb (get_or xs k 0) (get_or xs (suc k) 0) ≡ true) → rising leb xs ≡ true
 unfolding rising
 rising_all [] h = refl
 rising_all (x ∷ []) h = refl
-rising_all (x ∷ y ∷ ys) h = rw (le-leb x y (h 0 (omega arith))) (rising_all (y ∷ ys) (λ k l. h (suc k) (omega arith)))
+rising_all (x ∷ y ∷ ys) h = rw (h 0 (omega arith)) (rising_all (y ∷ ys) (λ k l. h (suc k) (omega arith)))
 
-rising_stops : (xs : List ℕ) (k : ℕ) → suc k < length xs → get_or xs (suc k) 0 < get_or xs k 0 → rising leb xs ≡ false
+rising_stops : (xs : List ℕ) (k : ℕ) → suc k < length xs → leb (get_or xs k 0) (get_or xs (suc k) 0) ≡ false → rising leb xs ≡ false
 unfolding rising
 rising_stops [] k l h = absurd (omega arith)
 rising_stops (x ∷ []) k l h = absurd (omega arith)
-rising_stops (x ∷ y ∷ ys) zero l h = rw (lt-leb x y h)
+rising_stops (x ∷ y ∷ ys) zero l h = and_off _ _ h
 rising_stops (x ∷ y ∷ ys) (suc k) l h = by_bool (leb x y) (λ e. rw e (rising_stops (y ∷ ys) k (omega arith) h)) (λ e. rw e)
 
-pub rising_answer : (xs : List ℕ) (r : Bool) → MatchBool r (IsNonDecreasing xs) ((k : ℕ) × (k + 1 < length xs) × ((d : ℕ) → get_or xs (k + 1) d < get_or xs k d)) → r ≡ rising leb xs
-rising_answer xs true h = sym (rising_all xs (λ k l. h k (suc k) 0 (omega arith) l))
-rising_answer xs false (k, l, h) = sym (rising_stops xs k (rw add-one at l) (rw add-one at (h 0)))
+pub rising_answer : (xs : List ℕ) (r : Bool) → IsAllAdjacentAnswer (λ x y b. b ≡ leb x y) xs r → r ≡ rising leb xs
+rising_answer xs true h = sym (rising_all xs (λ k l. rw add-one at (sym (h k 0 (rw add-one l)))))
+rising_answer xs false (k, l, h) = sym (rising_stops xs k (rw add-one at l) (rw add-one at (sym (h 0))))
 
 -- A number stored behind the first i.
 pub one_behind : (w xs : List ℕ) (i v : ℕ) → i < length w → take i w ≡ xs → take (i + 1) (set w i v) ≡ xs ++ (v ∷ [])

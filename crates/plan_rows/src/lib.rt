@@ -41,7 +41,7 @@ pub fn read_lookaheads(s: &[u8], count: usize, lookaheads: &mut [u64])
 pub fn never_fall(sources: &[u32]) -> bool
     ensures { result ≡ rising leb sources.now }
 {
-    sources.is_sorted()
+    sources.is_sorted_by(|x, y| x <= y)
 }
 
 // The ids 0 to n - 1.

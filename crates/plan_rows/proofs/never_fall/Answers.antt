@@ -1,6 +1,9 @@
-use Rattle.std.proofs.lemmas.List.Sorted.{non_decreasing_from_is_sorted}
+use Prim.Native.Nat.{ℕ}
+use lib.Dec.{leb}
+use borrow.Author.Rules.{rules}
+use Rattle.std.proofs.lemmas.List.Sorted.{answers_always}
 use Rattle.plan_rows.proofs.Filling.{rising_answer}
 use Rattle.plan_rows.proofs.never_fall.Goals as goal
 
 pub returns : goal.returns
-returns c = rising_answer _ _ (non_decreasing_from_is_sorted _ _ c.is_sorted.ensures.cases)
+returns c = rising_answer _ _ (c.is_sorted_by.ensures.cases (λ (x y : ℕ). leb x y) (answers_always _ _ _ (λ f a r g h. search rules)))
