@@ -1,4 +1,5 @@
 -- What each return of a call on a runtime gives.
+use Rattle.std.specs.Prelude.{Result, Err}
 use mathlib.Core.Path.{◌≡◌, refl, sym, ap}
 use mathlib.Core.Bool.{true, false}
 use mathlib.Core.List.{List}
@@ -24,7 +25,8 @@ use Rattle.state.specs.declared.Counters.{Counters}
 use Rattle.state.specs.declared.Message.{Message}
 use Rattle.state.specs.declared.CoreResult.{CoreResult}
 use Rattle.state.specs.declared.Answer.{Answer}
-use Rattle.state.specs.declared.Answer.TheVariants as P
+use Rattle.state.specs.declared.Refusal.{Refusal}
+use Rattle.state.specs.declared.Refusal.TheVariants.{ForeignState}
 use Rattle.state.specs.View.{view_of, counters_of, message_of, answer_of}
 use Rattle.state.specs.ValidArrays.{ValidArrays}
 use Rattle.state.specs.AsGiven.{as_given, SameAsGiven}
@@ -46,14 +48,14 @@ row_11 s c Step f = rw f
 row_11 s c (HandBack mask xs) f = rw f
 
 -- Number and values follow from the whole answer.
-pub executes : (k : Call) (s : Runtime) (c : Counters) (a : Answer) (t : Runtime) (d : Counters) → out (answer_of (view_of t).batch a) (view_of t) (counters_of d) ≡ rule (view_of s) (counters_of c) k
+pub executes : (k : Call) (s : Runtime) (c : Counters) (a : Result Answer Refusal) (t : Runtime) (d : Counters) → out (answer_of (view_of t).batch a) (view_of t) (counters_of d) ≡ rule (view_of s) (counters_of c) k
     → (as_given k (answer_of (view_of t).batch a) ≡ true → (t ≡ s) × (d ≡ c)) → Executes k s c a t d
 executes k s c a t d g m =
     let e : answer_of (view_of t).batch a ≡ (rule (view_of s) (counters_of c) k).answer = ap (λ (o : Out). o.answer) g in
     record { gives = g; number_is = numbered (view_of t).batch a _ e; values_are = valued (view_of t).batch a _ e; kept = m }
 
-pub carries_foreign : (s : Runtime) (c : Counters) → foreign (view_of s) ≡ true → (k : Call) → Executes k s c P.ForeignState s c
-carries_foreign s c f k = executes k s c P.ForeignState s c (sym (row_11 (view_of s) (counters_of c) k f)) (λ _. (refl, refl))
+pub carries_foreign : (s : Runtime) (c : Counters) (e : Refusal) → (e ≡ ForeignState) × (foreign (view_of s) ≡ true) → (k : Call) → Executes k s c (Err e) s c
+carries_foreign s c e (w, f) k = rw w (executes k s c (Err ForeignState) s c (sym (row_11 (view_of s) (counters_of c) k f)) (λ _. (refl, refl)))
 
 abbrev packed : List ℕ → List ℕ → List ℕ → List ℕ → Header → Runtime
 packed E Q Z B h = record { edges = E; pending = Q; processes = Z; batch = B; head = h }

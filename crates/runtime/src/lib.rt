@@ -10,125 +10,88 @@ ghost use Rattle.rules.specs.Foreign.{foreign};
 ghost use Rattle.rules.specs.Build.{setup};
 ghost use Rattle.rules.specs.Calls.{Call, AddInitial, Begin, Step, HandBack};
 ghost use Rattle.reply_words.specs.Emissions.{emissions_of};
+ghost use Rattle.state.specs.declared.Refusal.TheVariants.{ForeignState};
 ghost use Rattle.state.specs.View.{view_of, message_of};
 ghost use Rattle.build_topology.specs.Lookaheads.{lookaheads_for};
-ghost use Rattle.build.specs.Initialized.{CanInitialize, empty_runtime};
+ghost use Rattle.build.specs.Initialized.{CanInitialize};
 ghost use Rattle.runtime.specs.Builds.{Makes, Builds};
 ghost use Rattle.runtime.specs.Executes.{Executes};
 
-use build::BuildAnswer;
-use foreign::is_foreign;
-use state::{Answer, Counters, Message, Runtime};
+use build::BuildRefusal;
+use build_topology::Rows;
+use state::{Answer, Counters, Message, Refusal, Runtime};
 use types::{SimDuration, SimTime};
 
-// What build gives: its answer, the runtime made and the counters left.
+// What build gives: its answer, the runtime made and the counters left. A struct beside the answer,
+// since a refusal leaves both too.
 #[derive(Clone, Copy)]
 pub struct BuildResult {
-    pub answer: BuildAnswer,
+    pub answer: Result<(), BuildRefusal>,
     pub state: Runtime,
     pub counters: Counters,
 }
 
-// What a call on a runtime gives: its answer, with the runtime and the counters left.
+// What a call on a runtime gives: its answer, with the runtime and the counters left, by a refusal too.
 #[derive(Clone, Copy)]
 pub struct CallResult {
-    pub answer: Answer,
+    pub answer: Result<Answer, Refusal>,
     pub state: Runtime,
     pub counters: Counters,
-}
-
-// "nothing made": all zeros, a state without processes, which every later call refuses with 11.
-fn empty_runtime() -> Runtime
-    ensures { result ≡ empty_runtime }
-{
-    Runtime {
-        edges: [0; 3072],
-        pending: [0; 4096],
-        processes: [0; 256],
-        batch: [0; 512],
-        head: build::empty_header(),
-    }
 }
 
 // The runtime of an accepted build.
-fn make_runtime<'a>(
-    n: u64,
-    lookahead: SimDuration,
-    sources: &'a [u32],
-    counts: &'a [u64],
-    destinations: &'a [u32],
-    lookaheads: &'a [u64],
-) -> Runtime
-    requires { CanInitialize n (duration_of lookahead) sources.now counts.now destinations.now lookaheads.now (zeroes 3072) (zeroes 256) }
-    ensures { Makes n (duration_of lookahead) sources.now counts.now destinations.now lookaheads.now result }
+fn make_runtime(n: u64, lookahead: SimDuration, rows: Rows<'_>) -> Runtime
+    requires { CanInitialize n (duration_of lookahead) rows.sources.now rows.counts.now rows.destinations.now rows.lookaheads.now (zeroes 3072) (zeroes 256) }
+    ensures { Makes n (duration_of lookahead) rows.entry.sources.now rows.entry.counts.now rows.entry.destinations.now rows.entry.lookaheads.now result }
 {
     let mut edges = [0u64; 3072];
     let mut processes = [0u64; 256];
-    let head = build::initialize(
-        n,
-        lookahead,
-        sources,
-        counts,
-        destinations,
-        lookaheads,
-        &mut edges,
-        &mut processes,
-    );
+    let head = build::initialize(n, lookahead, rows, &mut edges, &mut processes);
     Runtime {
-        edges: edges,
+        edges,
         pending: [0; 4096],
-        processes: processes,
+        processes,
         batch: [0; 512],
-        head: head,
+        head,
     }
 }
 
-// Build takes n, L, the process ids, the rows (their sources, and how many destinations each takes)
-// and the lists from which the rows take their destinations and these their lookaheads in turn, two
-// words each, the upper half first.
-pub fn build<'a>(
+// Build takes n, L, the process ids and the rows: their sources, how many destinations each takes, and
+// the lists from which the rows take their destinations and these their lookaheads in turn, two words
+// each, the upper half first. A refused build makes nothing: its state has no processes, so that every
+// later call refuses it with 11.
+pub fn build(
     n: u64,
     lookahead: SimDuration,
-    ids: &'a [u32],
-    sources: &'a [u32],
-    counts: &'a [u64],
-    destinations: &'a [u32],
-    lookaheads: &'a [u64],
+    ids: &[u32],
+    rows: Rows<'_>,
     counters: Counters,
 ) -> BuildResult
-    ensures { Builds (setup n (duration_of lookahead) ids.now sources.now counts.now destinations.now (lookaheads_for destinations.now lookaheads.now)) counters result }
+    ensures { Builds (setup n (duration_of lookahead) ids.now rows.entry.sources.now rows.entry.counts.now rows.entry.destinations.now (lookaheads_for rows.entry.destinations.now rows.entry.lookaheads.now)) counters result }
 {
-    let answer = build::check(n, lookahead, ids, sources, counts, destinations, lookaheads);
-    if let BuildAnswer::Accepted = answer {
-        return BuildResult {
-            answer: answer,
-            state: make_runtime(n, lookahead, sources, counts, destinations, lookaheads),
-            counters: Counters {
-                processed_events: 0,
-                emitted_events: 0,
-                remote_events: 0,
-                rounds: 0,
-                null_messages: 0,
-                worker_count: 0,
-            },
-        };
-    }
-    BuildResult {
-        answer: answer,
-        state: empty_runtime(),
-        counters: counters,
+    match build::check(n, lookahead, ids, rows) {
+        Ok(()) => BuildResult {
+            answer: Ok(()),
+            state: make_runtime(n, lookahead, rows),
+            counters: state::zero_counters(),
+        },
+        Err(refusal) => BuildResult {
+            answer: Err(refusal),
+            state: build::empty_runtime(),
+            counters,
+        },
     }
 }
 
 // 11 refuses any call: state and counters come back as given.
-fn refuse_foreign(state: Runtime, counters: Counters) -> CallResult
-    requires { foreign (view_of state) ≡ true }
+fn refuse_foreign(state: Runtime, counters: Counters, why: Refusal) -> CallResult
+    requires { (why ≡ ForeignState) × (foreign (view_of state) ≡ true) }
     ensures { (k : Call) → Executes k state counters result.answer result.state result.counters }
 {
     CallResult {
-        answer: Answer::ForeignState,
-        state: state,
-        counters: counters,
+        answer: Err(why),
+        state,
+        counters,
     }
 }
 
@@ -136,91 +99,52 @@ fn refuse_foreign(state: Runtime, counters: Counters) -> CallResult
 pub fn begin(mut state: Runtime, counters: Counters, horizon: SimTime, budget: u64) -> CallResult
     ensures { Executes (Begin (ticks_of horizon) budget) state counters result.answer result.state result.counters }
 {
-    let head = state.head;
-    if is_foreign(
-        head,
-        &state.edges,
-        &state.pending,
-        &state.processes,
-        &state.batch,
-    ) {
-        return refuse_foreign(state, counters);
+    if let Err(refusal) = foreign::check(&state) {
+        return refuse_foreign(state, counters, refusal);
     }
-    let begun = begin_run::begin(head, horizon, budget);
-    let answer = begun.answer;
-    let left = begun.head;
-    state.head = left;
+    let begun = begin_run::begin(state.head, horizon, budget);
+    state.head = begun.head;
     CallResult {
-        answer: answer,
-        state: state,
-        counters: counters,
+        answer: begun.answer,
+        state,
+        counters,
     }
 }
 
 pub fn add_initial(mut state: Runtime, counters: Counters, m: Message) -> CallResult
     ensures { Executes (AddInitial (message_of m)) state counters result.answer result.state result.counters }
 {
-    let head = state.head;
-    if is_foreign(
-        head,
-        &state.edges,
-        &state.pending,
-        &state.processes,
-        &state.batch,
-    ) {
-        return refuse_foreign(state, counters);
+    if let Err(refusal) = foreign::check(&state) {
+        return refuse_foreign(state, counters, refusal);
     }
-    let mut pending = state.pending;
-    let added = schedule_initial::add_initial(head, &state.edges, &mut pending, m);
-    let answer = added.answer;
-    let left = added.head;
-    state.pending = pending;
-    state.head = left;
+    let added = schedule_initial::add_initial(state.head, &state.edges, &mut state.pending, m);
+    state.head = added.head;
     CallResult {
-        answer: answer,
-        state: state,
-        counters: counters,
+        answer: added.answer,
+        state,
+        counters,
     }
 }
 
-pub fn step(state: Runtime, counters: Counters) -> CallResult
+pub fn step(mut state: Runtime, counters: Counters) -> CallResult
     ensures { Executes Step state counters result.answer result.state result.counters }
 {
-    let head = state.head;
-    if is_foreign(
-        head,
-        &state.edges,
-        &state.pending,
-        &state.processes,
-        &state.batch,
-    ) {
-        return refuse_foreign(state, counters);
+    if let Err(refusal) = foreign::check(&state) {
+        return refuse_foreign(state, counters, refusal);
     }
-    let mut edges = state.edges;
-    let mut pending = state.pending;
-    let mut processes = state.processes;
-    let mut batch = state.batch;
     let stepped = step::step(
-        head,
+        state.head,
         counters,
-        &mut edges,
-        &mut pending,
-        &mut processes,
-        &mut batch,
+        &mut state.edges,
+        &mut state.pending,
+        &mut state.processes,
+        &mut state.batch,
     );
-    let answer = stepped.answer;
-    let left = stepped.head;
-    let counted = stepped.counters;
+    state.head = stepped.head;
     CallResult {
-        answer: answer,
-        state: Runtime {
-            edges: edges,
-            pending: pending,
-            processes: processes,
-            batch: batch,
-            head: left,
-        },
-        counters: counted,
+        answer: stepped.answer,
+        state,
+        counters: stepped.counters,
     }
 }
 
@@ -228,39 +152,23 @@ pub fn step(state: Runtime, counters: Counters) -> CallResult
 pub fn hand_back(mut state: Runtime, counters: Counters, mask: u64, reply: &[u64]) -> CallResult
     ensures { Executes (HandBack mask (emissions_of (length reply.now / 8) reply.now)) state counters result.answer result.state result.counters }
 {
-    let head = state.head;
-    if is_foreign(
-        head,
-        &state.edges,
-        &state.pending,
-        &state.processes,
-        &state.batch,
-    ) {
-        return refuse_foreign(state, counters);
+    if let Err(refusal) = foreign::check(&state) {
+        return refuse_foreign(state, counters, refusal);
     }
-    let mut pending = state.pending;
-    let mut processes = state.processes;
-    let mut batch = state.batch;
     let handed = hand_back::hand_back(
-        head,
+        state.head,
         counters,
         &state.edges,
-        &mut pending,
-        &mut processes,
-        &mut batch,
+        &mut state.pending,
+        &mut state.processes,
+        &mut state.batch,
         mask,
         reply,
     );
-    let answer = handed.answer;
-    let left = handed.head;
-    let counted = handed.counters;
-    state.pending = pending;
-    state.processes = processes;
-    state.batch = batch;
-    state.head = left;
+    state.head = handed.head;
     CallResult {
-        answer: answer,
-        state: state,
-        counters: counted,
+        answer: handed.answer,
+        state,
+        counters: handed.counters,
     }
 }

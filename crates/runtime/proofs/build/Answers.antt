@@ -2,10 +2,10 @@ use Rattle.runtime.proofs.Making.{can_make, accepted, refused}
 use Rattle.runtime.proofs.build.Goals as goal
 
 pub make_runtime-requires : goal.make_runtime-requires
-make_runtime-requires c = search can_make depth 1
+make_runtime-requires c = can_make _ _ _ _ _ _ _ c.args.counters _ c.check.ensures c.in-Ok.is
 
-pub returns-in-Accepted : goal.returns-in-Accepted
-returns-in-Accepted c = search accepted depth 1
+pub returns-in-Ok : goal.returns-in-Ok
+returns-in-Ok c = accepted _ _ _ _ _ _ _ c.args.counters _ c.check.ensures c.in-Ok.is c.make_runtime.result c.make_runtime.ensures c.zero_counters.result c.zero_counters.ensures
 
-pub returns : goal.returns
-returns c = search refused depth 1
+pub returns-in-Err : goal.returns-in-Err
+returns-in-Err c = refused _ _ _ _ _ _ _ c.args.counters _ c.check.ensures _ c.in-Err.is c.empty_runtime.result c.empty_runtime.ensures
