@@ -119,22 +119,7 @@ pub fn initialize(
 pub fn empty_header() -> Header
     ensures { result ≡ empty_header }
 {
-    Header {
-        n: 0,
-        lookahead: SimDuration::ZERO,
-        edges: 0,
-        pending: 0,
-        batch: 0,
-        next: 0,
-        gvt: SimTime::ZERO,
-        stored: false,
-        horizon: SimTime::ZERO,
-        budget: 0,
-        used: 0,
-        initial: false,
-        running: false,
-        poisoned: false,
-    }
+    Header::default()
 }
 
 // The state of a refused build: all zeros.

@@ -12,7 +12,7 @@ use types::{LpId, MAX_COUNT, MAX_PENDING, SimDuration, SimTime};
 // The small fields of a runtime. `edges`, `pending` and `batch` are how many there are; `next` is the
 // next sequence number; `stored` says whether `horizon` and `budget` are set; `initial`, that initial
 // events are open; `running`, that a run is open.
-#[derive(Clone, Copy)]
+#[derive(Clone, Copy, Default)]
 pub struct Header {
     pub n: usize,
     pub lookahead: SimDuration,
