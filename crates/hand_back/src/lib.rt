@@ -11,7 +11,7 @@ ghost use Rattle.state.specs.ValidArrays.{ValidArrays};
 ghost use Rattle.hand_back_commit.specs.HandsBack.{HandsBack};
 ghost use Rattle.hand_back.specs.ReplyChecks.{replied_of, EarlyRows, Ready, Begins, CanReview, ChecksReply, as_given_to, CanCommit, Commits};
 
-use hand_back_check::ReplyCheck;
+use hand_back_check::{Lent, ReplyCheck};
 use hand_back_enqueue::Tail;
 use state::{CoreResult, Counters, Header, Refusal};
 
@@ -50,69 +50,54 @@ pub fn begin_check(
 // The emissions of a reply in words, by a table of so many words, 64 for each event in hand. It is made
 // for each reply, and a small one is cleared sooner.
 fn review_with<'a, const WORDS: usize>(
-    head: Header,
-    edges: &'a [u64],
+    lent: Lent<'a>,
     places: &'a [u64],
-    processes: &'a [u64],
-    batch: &'a [u64],
     start: ReplyCheck,
     reply: &'a [u64],
     count: usize,
 ) -> Result<ReplyCheck, Refusal>
-    requires { (WORDS ≤ 4096) × CanReview head edges.now processes.now batch.now start places.now (WORDS / 64) × (8 * count ≤ length reply.now) }
-    ensures { ChecksReply head edges.now processes.now batch.now start.mask (emissions_of count reply.now) result }
+    requires { (WORDS ≤ 4096) × CanReview lent.head lent.edges.now lent.processes.now lent.batch.now start places.now (WORDS / 64) × (8 * count ≤ length reply.now) }
+    ensures { ChecksReply lent.entry.head lent.entry.edges.now lent.entry.processes.now lent.entry.batch.now start.mask (emissions_of count reply.now) result }
 {
     let mut table = [0u16; WORDS];
-    hand_back_edges::find_edges(edges, head.edges, places, &mut table);
-    hand_back_check::check_words(
-        head, edges, &table, places, processes, batch, start, reply, count,
-    )
+    hand_back_edges::find_edges(lent.edges, lent.head.edges, places, &mut table);
+    hand_back_check::check_words(lent, &table, places, start, reply, count)
 }
 
 // The emissions of a reply in words, by the smallest table that has a row for each event in hand: of 2,
 // 16 or 64 rows.
 fn review<'a>(
-    head: Header,
-    edges: &'a [u64],
+    lent: Lent<'a>,
     places: &'a [u64],
-    processes: &'a [u64],
-    batch: &'a [u64],
     start: ReplyCheck,
     reply: &'a [u64],
     count: usize,
 ) -> Result<ReplyCheck, Refusal>
-    requires { CanReview head edges.now processes.now batch.now start places.now 64 × (8 * count ≤ length reply.now) }
-    ensures { ChecksReply head edges.now processes.now batch.now start.mask (emissions_of count reply.now) result }
+    requires { CanReview lent.head lent.edges.now lent.processes.now lent.batch.now start places.now 64 × (8 * count ≤ length reply.now) }
+    ensures { ChecksReply lent.entry.head lent.entry.edges.now lent.entry.processes.now lent.entry.batch.now start.mask (emissions_of count reply.now) result }
 {
-    if head.batch <= 2 {
-        return review_with::<128>(head, edges, places, processes, batch, start, reply, count);
+    if lent.head.batch <= 2 {
+        return review_with::<128>(lent, places, start, reply, count);
     }
-    if head.batch <= 16 {
-        return review_with::<1024>(head, edges, places, processes, batch, start, reply, count);
+    if lent.head.batch <= 16 {
+        return review_with::<1024>(lent, places, start, reply, count);
     }
-    review_with::<4096>(head, edges, places, processes, batch, start, reply, count)
+    review_with::<4096>(lent, places, start, reply, count)
 }
 
 // The check of a reply in words. Edges are read for emissions alone: a reply without any does not walk
 // them.
-fn check_reply<'a>(
-    head: Header,
-    edges: &'a [u64],
-    processes: &'a [u64],
-    batch: &'a [u64],
-    mask: u64,
-    reply: &'a [u64],
-) -> Result<ReplyCheck, Refusal>
-    requires { Ready head edges.now batch.now × (length processes.now ≡ 256) × (length batch.now ≡ 512) }
-    ensures { ChecksReply head edges.now processes.now batch.now mask (replied_of reply.now) result }
+fn check_reply<'a>(lent: Lent<'a>, mask: u64, reply: &'a [u64]) -> Result<ReplyCheck, Refusal>
+    requires { Ready lent.head lent.edges.now lent.batch.now × (length lent.processes.now ≡ 256) × (length lent.batch.now ≡ 512) }
+    ensures { ChecksReply lent.entry.head lent.entry.edges.now lent.entry.processes.now lent.entry.batch.now mask (replied_of reply.now) result }
 {
     let mut places = [0u64; 64];
-    let start = begin_check(head, batch, mask, &mut places)?;
+    let start = begin_check(lent.head, lent.batch, mask, &mut places)?;
     let count = reply.len() / 8;
     if count == 0 {
         return Ok(start);
     }
-    review(head, edges, &places, processes, batch, start, reply, count)
+    review(lent, &places, start, reply, count)
 }
 
 // The refusals that leave the state as given.
@@ -174,7 +159,13 @@ pub fn hand_back<'a>(
     requires { ValidArrays head edges.now pending.old processes.old batch.old }
     ensures { HandsBack head counters edges.now pending.old processes.old batch.old mask (emissions_of (length reply.now / 8) reply.now) result pending.new processes.new batch.new }
 {
-    match check_reply(head, edges, processes, batch, mask, reply) {
+    let lent = Lent {
+        head,
+        edges,
+        processes,
+        batch,
+    };
+    match check_reply(lent, mask, reply) {
         Ok(check) => commit(head, counters, pending, processes, batch, check, reply),
         Err(refusal) => as_given(head, counters, refusal),
     }

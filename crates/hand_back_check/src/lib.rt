@@ -19,6 +19,15 @@ use reply_words::Emission;
 use state::{Header, Refusal};
 use types::{LpId, SimDuration, SimTime};
 
+// What a reply is checked against: the header, and arrays of which nothing is written.
+#[derive(Clone, Copy)]
+pub struct Lent<'a> {
+    pub head: Header,
+    pub edges: &'a [u64],
+    pub processes: &'a [u64],
+    pub batch: &'a [u64],
+}
+
 // How far a reply is checked that is well formed so far. `outcome` is what 28 to 33 say of it so far,
 // `failed` the first process in hand that failed, `last` the last emitter, and `remote` how many
 // emissions are remote. A reply that is refused with the state left as given has none of this: its check
@@ -123,24 +132,29 @@ pub fn check<'a>(
 
 // The emissions of a reply in words, each in turn.
 pub fn check_words<'a>(
-    head: Header,
-    edges: &'a [u64],
+    lent: Lent<'a>,
     table: &'a [u16],
     places: &'a [u64],
-    processes: &'a [u64],
-    batch: &'a [u64],
     start: ReplyCheck,
     reply: &'a [u64],
     count: usize,
 ) -> Result<ReplyCheck, Refusal>
-    requires { CheckStarted head places.now processes.now batch.now start × CanLook edges.now table.now places.now × (8 * count ≤ length reply.now) }
-    ensures { Checked head (look_in_table edges.now table.now places.now) places.now processes.now batch.now start (emissions_of count reply.now) result }
+    requires { CheckStarted lent.head places.now lent.processes.now lent.batch.now start × CanLook lent.edges.now table.now places.now × (8 * count ≤ length reply.now) }
+    ensures { Checked lent.entry.head (look_in_table lent.entry.edges.now table.now places.now) places.now lent.entry.processes.now lent.entry.batch.now start (emissions_of count reply.now) result }
 {
     let mut a = start;
     for i in 0..count {
         let e = reply_words::emission_in(reply, 8 * i);
-        let lookahead = hand_back_edges::lookahead_of(edges, table, places, e);
-        a = check(head, lookahead, places, processes, batch, a, e)?;
+        let lookahead = hand_back_edges::lookahead_of(lent.edges, table, places, e);
+        a = check(
+            lent.head,
+            lookahead,
+            places,
+            lent.processes,
+            lent.batch,
+            a,
+            e,
+        )?;
     }
     Ok(a)
 }

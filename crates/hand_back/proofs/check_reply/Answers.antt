@@ -8,12 +8,12 @@ returns-in_err-start c =
     rw (p.1, p.2) (λ d Q. c.in_err-start.ensures d _ _ Q _)
 
 pub returns-then-count-eq0 : goal.returns-then-count-eq0
-returns-then-count-eq0 c = checks_empty c.args.head _ _ _ c.args.mask _ _ c.in_ok-start.ensures c.args.reply.now c.if-count-eq0.true
+returns-then-count-eq0 c = checks_empty c.args.lent.head _ _ _ c.args.mask _ _ c.in_ok-start.ensures c.args.reply.now c.if-count-eq0.true
 
 pub review-requires : goal.review-requires
 review-requires c =
-    (can_review c.args.head _ _ _ c.args.mask c.in_ok-start.start _ c.requires.0 c.requires.1 c.requires.2 c.in_ok-start.ensures, whole c.args.reply.now)
+    (can_review c.args.lent.head _ _ _ c.args.mask c.in_ok-start.start _ c.requires.0 c.requires.1 c.requires.2 c.in_ok-start.ensures, whole c.args.reply.now)
 
 pub returns : goal.returns
 returns c =
-    checks_all c.args.head _ _ _ c.args.mask c.in_ok-start.start _ c.requires.0 c.requires.1 c.requires.2 c.in_ok-start.ensures _ _ c.review.ensures
+    checks_all c.args.lent.head _ _ _ c.args.mask c.in_ok-start.start _ c.requires.0 c.requires.1 c.requires.2 c.in_ok-start.ensures _ _ c.review.ensures

@@ -10,8 +10,8 @@ pub returns-in_err-a : goal.returns-in_err-a
 returns-in_err-a c =
     let p = err_from_is_err_and c.from_residual.result c.from_residual.ensures.1 in
     rw (p.1, p.2)
-    (checking_ill c.args.head (look_in_table _ _ _) _ _ _ c.args.start _ c.requires.0 _ _ c.loop-i.invariant c.emission_in-e.result c.emission_in-e.ensures c.lookahead_of-lookahead.result c.lookahead_of-lookahead.ensures _ c.loop-i-test.true _ c.in_err-a.ensures)
+    (checking_ill c.args.lent.head (look_in_table _ _ _) _ _ _ c.args.start _ c.requires.0 _ _ c.loop-i.invariant c.emission_in-e.result c.emission_in-e.ensures c.lookahead_of-lookahead.result c.lookahead_of-lookahead.ensures _ c.loop-i-test.true _ c.in_err-a.ensures)
 
 pub loop-i-preserved : goal.loop-i-preserved
 loop-i-preserved c =
-    checking_more c.args.head _ _ _ _ c.args.start _ c.requires.0 _ _ c.loop-i.invariant c.emission_in-e.result c.emission_in-e.ensures c.lookahead_of-lookahead.result c.lookahead_of-lookahead.ensures _ c.in_ok-a.ensures
+    checking_more c.args.lent.head _ _ _ _ c.args.start _ c.requires.0 _ _ c.loop-i.invariant c.emission_in-e.result c.emission_in-e.ensures c.lookahead_of-lookahead.result c.lookahead_of-lookahead.ensures _ c.in_ok-a.ensures

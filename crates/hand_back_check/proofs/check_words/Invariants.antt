@@ -4,4 +4,4 @@ use Rattle.hand_back_check.specs.Checks.{CheckedTo}
 use Rattle.hand_back_check.proofs.check_words.Given as goal
 
 abbrev pub invariant-loop-i : goal.invariant-loop-i
-invariant-loop-i l = CheckedTo l.head (look_in_table l.edges l.table l.places) l.places l.processes l.batch l.initial.a (emissions_of l.i l.reply) l.a
+invariant-loop-i l = CheckedTo l.lent.head (look_in_table l.lent.edges.now l.table l.places) l.places l.lent.processes.now l.lent.batch.now l.initial.a (emissions_of l.i l.reply) l.a
