@@ -29,6 +29,8 @@ pub enum Values {
     Counted(Counters, u64),
 }
 
+// The number of each kind of answer. Kept as three functions: `build`, `state` and `reads` define each
+// apart, and their contracts say which.
 pub fn build_number(answer: Result<(), BuildRefusal>) -> u64
     ensures { result ≡ of_build.number_of answer }
 {

@@ -54,7 +54,7 @@ fn skip_hand_back() -> Option<()> {
     skip_items(8)
 }
 
-// The arguments of a call.
+// The arguments of a call. Kept as numbers: a tag is a word of the file, which is read nowhere else here.
 pub fn skip_call(tag: u64) -> Option<()> {
     match tag {
         0 => text_input::skip_words(STDIN_FILENO, 7),

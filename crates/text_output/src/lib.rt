@@ -26,7 +26,8 @@ pub struct Gathered {
 }
 
 // The hexadecimal digits of a tick, in lower case and without leading zeros, at the start of out;
-// how many there are.
+// how many there are. Kept by hand and with a count beside the buffer: io::hex, which proves its digits,
+// has this form and takes 64 bits.
 pub fn tick_digits(t: SimTime, out: &mut [u8; 32]) -> usize
     ensures prefix_len { IsPrefixLen result out.new }
     ensures digit_count { IsDigitCount 16 1 (ticks_of t) result }
