@@ -1,4 +1,5 @@
 -- What each return of a rehearsal gives.
+use Rattle.std.specs.Prelude.{Ok}
 use mathlib.Core.Path.{◌≡◌, refl, sym, ap, ◌∙◌}
 use mathlib.Core.List.{List, []}
 use Prim.Native.Nat.{ℕ}
@@ -11,16 +12,12 @@ use Rattle.rules.specs.Foreign.{foreign}
 use Rattle.rules.specs.History.{empty_history}
 use Rattle.rules.proofs.Demand.{demand_3}
 use Rattle.state.specs.declared.Header.{Header}
-use Rattle.state.specs.declared.Counters.{Counters}
-use Rattle.state.specs.View.{zero_counters}
 use Rattle.state.specs.ValidArrays.{ValidArrays}
 use Rattle.build_topology.specs.Lookaheads.{lookaheads_for}
-use Rattle.build.specs.declared.BuildAnswer.{BuildAnswer}
-use Rattle.build.specs.declared.BuildAnswer.TheVariants as P
 use Rattle.build.specs.Checks.{answer_of, ChecksBuild}
-use Rattle.build.specs.Initialized.{CanInitialize, Initializes, empty_header}
+use Rattle.build.specs.Initialized.{CanInitialize, Initializes}
 use Rattle.build.proofs.AnswerRows.{never}
-use Rattle.build.proofs.Numbering.{refusing}
+use Rattle.build.proofs.Numbering.{Built}
 use Rattle.build.proofs.Initializing.{can_initialize}
 use Rattle.call_list.specs.declared.RunResult.{RunResult}
 use Rattle.call_list.specs.declared.RehearsalResult.{RehearsalResult}
@@ -39,7 +36,7 @@ module _ (n L : ℕ) (ss cs ds ws : List ℕ) (t : CanInitialize n L ss cs ds ws
   }
 
   pub built_rehearsed : (u : List ℕ) (r : RunResult) (E' Q' Z' B' : List ℕ) → RunsCalls h E (zeroes 4096) Z (zeroes 512) u r E' Q' Z' B'
-      → RehearsesAccepted n L ss cs ds ws u (record { answer = P.Accepted; state = record { edges = E'; pending = Q'; processes = Z'; batch = B'; head = r.head }; counters = r.counters; calls = r.calls })
+      → RehearsesAccepted n L ss cs ds ws u (record { answer = Ok tt; state = record { edges = E'; pending = Q'; processes = Z'; batch = B'; head = r.head }; counters = r.counters; calls = r.calls })
   built_rehearsed u r E' Q' Z' B' g = record {
     answered = refl;
     leaves = λ ids.
@@ -48,11 +45,11 @@ module _ (n L : ℕ) (ss cs ds ws : List ℕ) (t : CanInitialize n L ss cs ds ws
         record { state = g.state (empty_history a) b refl; counters = g.counters (empty_history a) b refl; calls = g.calls };
   }
 
-module _ (n L : ℕ) (ids ss cs ds ws : List ℕ) (r : BuildAnswer) (j : ChecksBuild n L ids ss cs ds ws r) where
+module _ (n L : ℕ) (ids ss cs ds ws : List ℕ) (r : Built) (j : ChecksBuild n L ids ss cs ds ws r) where
   abbrev a : Setup
   a = setup n L ids ss cs ds (lookaheads_for ds ws)
 
-  module _ (e : r ≡ P.Accepted) where
+  module _ (e : r ≡ Ok tt) where
     accepts : (c : R.Counters) → (build a c).answer ≡ Accepted
     accepts c = sym (j.of_counters c) ∙ ap answer_of e
 
@@ -66,12 +63,3 @@ module _ (n L : ℕ) (ids ss cs ds ws : List ℕ) (r : BuildAnswer) (j : ChecksB
       demanded = λ _. demand_3 a R.zeros (accepts R.zeros) _;
       refused = λ why y. never why (sym y ∙ g.answered);
     }
-
-  pub turned_away_holds : (w : List ℕ) (h : Header) (k : Counters) → h ≡ empty_header → k ≡ zero_counters → (r ≡ P.Accepted → ⊥)
-      → Rehearses a w (record { answer = r; state = record { edges = zeroes 3072; pending = zeroes 4096; processes = zeroes 256; batch = zeroes 512; head = h }; counters = k; calls = 0 })
-  turned_away_holds w h k e d o = refusing r o (λ why x. record {
-    answered = λ x. j.of_counters x;
-    leaves = λ y. never why (sym x ∙ y);
-    demanded = λ y. never why (sym x ∙ y);
-    refused = λ _ _. rw (e, d);
-  })

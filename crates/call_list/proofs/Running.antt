@@ -63,27 +63,25 @@ module _ (h₀ : Header) (E₀ Q₀ Z₀ B₀ w : List ℕ) where
   abbrev ahead : ℕ → ℕ → List Call
   ahead calls at = decode_from (length w - calls) w at
 
-  pub record Running (calls at count : ℕ) (h : Header) (c : Counters) (E Q Z B : List ℕ) : Type 0 where
+  pub record Running (calls at : ℕ) (h : Header) (c : Counters) (E Q Z B : List ℕ) : Type 0 where
     pub each_some : calls ≤ at
     pub inside : at ≤ length w
-    pub sized : count ≡ size (decode w at)
     pub lent : ValidArrays h E Q Z B
     pub same : left (view h₀ E₀ Q₀ Z₀ B₀) (counters_of zero_counters) (decode_all w) ≡ left (view h E Q Z B) (counters_of c) (ahead calls at)
     pub counted : length (decode_all w) ≡ calls + length (ahead calls at)
 
-  pub running_start : (c : Counters) → c ≡ zero_counters → (count : ℕ) → count ≡ size (decode w 0) → ValidArrays h₀ E₀ Q₀ Z₀ B₀ → Running 0 0 count h₀ c E₀ Q₀ Z₀ B₀
+  pub running_start : (c : Counters) → c ≡ zero_counters → ValidArrays h₀ E₀ Q₀ Z₀ B₀ → Running 0 0 h₀ c E₀ Q₀ Z₀ B₀
   unfolding decode_all
-  running_start c n count z l = let e : length w - 0 ≡ length w = omega arith in record {
+  running_start c n l = let e : length w - 0 ≡ length w = omega arith in record {
     each_some = omega arith;
     inside = omega arith;
-    sized = z;
     lent = l;
     same = rw (e, n);
     counted = rw e (omega arith);
   }
 
-  module _ (calls at count : ℕ) (h : Header) (c : Counters) (E Q Z B : List ℕ) (i : Running calls at count h c E Q Z B) where
-    pub running_end : count ≤ 0 → RunsCalls h₀ E₀ Q₀ Z₀ B₀ w (record { head = h; counters = c; calls = calls }) E Q Z B
+  module _ (calls at : ℕ) (h : Header) (c : Counters) (E Q Z B : List ℕ) (i : Running calls at h c E Q Z B) where
+    pub running_end : size (decode w at) ≡ 0 → RunsCalls h₀ E₀ Q₀ Z₀ B₀ w (record { head = h; counters = c; calls = calls }) E Q Z B
     running_end z = record {
       state = λ y n m. ap (λ (x : Left). x.state) (leaves y n m);
       counters = λ y n m. ap (λ (x : Left). x.counters) (leaves y n m);
@@ -92,30 +90,29 @@ module _ (h₀ : Header) (E₀ Q₀ Z₀ B₀ w : List ℕ) where
     }
       where
         nothing_left : ahead calls at ≡ []
-        nothing_left = ended (length w - calls) w at ((sound w at).none (omega (arith, i.sized)))
+        nothing_left = ended (length w - calls) w at ((sound w at).none z)
 
         leaves : (y : History) → y.now ≡ view h₀ E₀ Q₀ Z₀ B₀ → y.counters ≡ counters_of zero_counters → left_by (run_calls y (decode_all w)) ≡ only (view h E Q Z B) (counters_of c)
         leaves y n m = sym (run_leaves y (decode_all w)) ∙ (λ j. left (n j) (m j) (decode_all w)) ∙ i.same ∙ ap (left (view h E Q Z B) (counters_of c)) nothing_left ∙ left_none (view h E Q Z B) (counters_of c)
 
-    module _ (l : 0 < count) where
+    module _ (count : ℕ) (l : (0 < count) × (count ≡ size (decode w at))) where
       pub behind : at + count ≤ length w
-      behind = omega (arith, i.sized, (sound w at).there (omega (arith, i.sized)))
+      behind = omega (arith, l.0, l.1, (sound w at).there (omega (arith, l.0, l.1)))
 
       decoded : decode w at ≡ Decodes (call_of (decode w at)) count
-      decoded = some (decode w at) (omega (arith, i.sized)) ∙ ap (Decodes (call_of (decode w at))) (sym i.sized)
+      decoded = some (decode w at) (omega (arith, l.0, l.1)) ∙ ap (Decodes (call_of (decode w at))) (sym l.1)
 
       next : ahead calls at ≡ call_of (decode w at) ∷ ahead (calls + 1) (at + count)
       next =
-          let s : length w - calls ≡ suc (length w - (calls + 1)) = omega (arith, behind, i.each_some) in
+          let s : length w - calls ≡ suc (length w - (calls + 1)) = omega (arith, behind, i.each_some, l.0) in
           ap (λ m. decode_from m w at) s ∙ further (length w - (calls + 1)) w at (call_of (decode w at)) count decoded
 
       pub running_more : (r : CoreResult) (E' Q' Z' B' : List ℕ) → length E' ≡ length E → length Q' ≡ length Q → length Z' ≡ length Z → length B' ≡ length B → Executes (call_of (decode w at)) h c E Q Z B r E' Q' Z' B'
-          → (count' : ℕ) → count' ≡ size (decode w (at + count)) → Running (calls + 1) (at + count) count' r.head r.counters E' Q' Z' B'
+          → Running (calls + 1) (at + count) r.head r.counters E' Q' Z' B'
       unfolding left
-      running_more r E' Q' Z' B' e q z b g count' y = record {
-        each_some = omega (arith, i.each_some);
+      running_more r E' Q' Z' B' e q z b g = record {
+        each_some = omega (arith, i.each_some, l.0);
         inside = behind;
-        sized = y;
         lent = left_lent (call_of (decode w at)) h c E Q Z B r E' Q' Z' B' _ i.lent e q z b g.gives;
         same = i.same ∙ ap (left (view h E Q Z B) (counters_of c)) next ∙ ap (λ (o : Out). left o.after o.counters (ahead (calls + 1) (at + count))) (sym g.gives);
         counted = let x : length (ahead calls at) ≡ suc (length (ahead (calls + 1) (at + count))) = ap length next in omega (arith, i.counted);

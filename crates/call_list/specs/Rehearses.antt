@@ -1,5 +1,5 @@
 -- What a rehearsal promises: the rules' history of the decoded calls, and demand 3 of it.
-use Rattle.std.specs.Prelude.{◌≡◌, List, ℕ, length}
+use Rattle.std.specs.Prelude.{◌≡◌, List, ℕ, length, Result}
 use Rattle.rules.specs.State as R
 use Rattle.rules.specs.Answers.{Refusal, Accepted, Refused}
 use Rattle.rules.specs.Build.{Setup, setup, build}
@@ -7,7 +7,7 @@ use Rattle.rules.specs.History.{History, empty_history, run_calls}
 use Rattle.rules.specs.Demand.{Demanded}
 use Rattle.state.specs.View.{view_of, counters_of, zero_counters}
 use Rattle.build_topology.specs.Lookaheads.{lookaheads_for}
-use Rattle.build.specs.declared.BuildAnswer.{BuildAnswer}
+use Rattle.build.specs.declared.BuildRefusal.{BuildRefusal}
 use Rattle.build.specs.Checks.{answer_of}
 use Rattle.build.specs.Initialized.{empty_runtime}
 use Rattle.call_words.specs.Decode.{decode_all}
@@ -28,7 +28,7 @@ pub record RehearsesAccepted (n L : ℕ) (sources counts destinations lookaheads
   pub leaves : (ids : List ℕ) → Leaves (setup n L ids sources counts destinations (lookaheads_for destinations lookaheads)) w r
 
 -- What a refused build leaves: nothing made, and nothing counted or carried out.
-abbrev pub refused_result : BuildAnswer → RehearsalResult
+abbrev pub refused_result : Result (Unit {0}) BuildRefusal → RehearsalResult
 refused_result b = record { answer = b; state = empty_runtime; counters = zero_counters; calls = 0 }
 
 pub record Rehearses (a : Setup) (w : List ℕ) (r : RehearsalResult) : Type 0 where

@@ -15,7 +15,8 @@ ghost use Rattle.build_topology.specs.Lookaheads.{lookaheads_for};
 ghost use Rattle.build.specs.Initialized.{CanInitialize};
 ghost use Rattle.call_list.specs.Rehearses.{RehearsesAccepted, Rehearses};
 
-use build::BuildAnswer;
+use build::BuildRefusal;
+use build_topology::Rows;
 use call_words::{BEGIN, STEP};
 use state::{CoreResult, Counters, Header, HeaderResult, Runtime};
 use types::SimDuration;
@@ -51,12 +52,10 @@ fn execute_add_or_begin(
     ensures { ExecutesAddOrBegin (call_of (decode words.now at)) head counters edges.now pending.old result pending.new }
 {
     let headed = add_or_begin(head, edges, pending, words, at);
-    let answer = headed.answer;
-    let h = headed.head;
     CoreResult {
-        answer: answer,
-        head: h,
-        counters: counters,
+        answer: headed.answer,
+        head: headed.head,
+        counters,
     }
 }
 
@@ -99,7 +98,7 @@ pub struct RunResult {
 // What a rehearsal gives: what build answered, and the runtime and the counters that the calls left.
 #[derive(Clone, Copy)]
 pub struct RehearsalResult {
-    pub answer: BuildAnswer,
+    pub answer: Result<(), BuildRefusal>,
     pub state: Runtime,
     pub counters: Counters,
     pub calls: usize,
@@ -120,49 +119,36 @@ fn run_calls(
     let mut counters = state::zero_counters();
     let mut at: usize = 0;
     let mut calls: usize = 0;
-    let mut count = call_words::call_size(words, 0);
-    while 0 < count {
+    // Kept by hand: no counting loop, since each call says how many words it takes.
+    while let Some(count) = call_words::call_size(words, at) {
         let after = execute(head, counters, edges, pending, processes, batch, words, at);
         head = after.head;
         counters = after.counters;
         at += count;
         calls += 1;
-        count = call_words::call_size(words, at);
     }
     RunResult {
-        head: head,
-        counters: counters,
-        calls: calls,
+        head,
+        counters,
+        calls,
     }
 }
 
 // A rehearsal of a build that was accepted.
-fn rehearse_accepted<'a>(
+fn rehearse_accepted(
     n: u64,
     lookahead: SimDuration,
-    sources: &'a [u32],
-    counts: &'a [u64],
-    destinations: &'a [u32],
-    lookaheads: &'a [u64],
-    words: &'a [u64],
+    rows: Rows<'_>,
+    words: &[u64],
 ) -> RehearsalResult
-    requires { CanInitialize n (duration_of lookahead) sources.now counts.now destinations.now lookaheads.now (zeroes 3072) (zeroes 256) }
-    ensures { RehearsesAccepted n (duration_of lookahead) sources.now counts.now destinations.now lookaheads.now words.now result }
+    requires { CanInitialize n (duration_of lookahead) rows.sources.now rows.counts.now rows.destinations.now rows.lookaheads.now (zeroes 3072) (zeroes 256) }
+    ensures { RehearsesAccepted n (duration_of lookahead) rows.entry.sources.now rows.entry.counts.now rows.entry.destinations.now rows.entry.lookaheads.now words.now result }
 {
     let mut edges = [0u64; 3072];
     let mut pending = [0u64; 4096];
     let mut processes = [0u64; 256];
     let mut batch = [0u64; 512];
-    let head = build::initialize(
-        n,
-        lookahead,
-        sources,
-        counts,
-        destinations,
-        lookaheads,
-        &mut edges,
-        &mut processes,
-    );
+    let head = build::initialize(n, lookahead, rows, &mut edges, &mut processes);
     let ran = run_calls(
         head,
         &mut edges,
@@ -171,57 +157,37 @@ fn rehearse_accepted<'a>(
         &mut batch,
         words,
     );
-    let h = ran.head;
-    let c = ran.counters;
     RehearsalResult {
-        answer: BuildAnswer::Accepted,
+        answer: Ok(()),
         state: Runtime {
-            edges: edges,
-            pending: pending,
-            processes: processes,
-            batch: batch,
-            head: h,
+            edges,
+            pending,
+            processes,
+            batch,
+            head: ran.head,
         },
-        counters: c,
+        counters: ran.counters,
         calls: ran.calls,
     }
 }
 
 // Build, and all calls of the words on what it made. A refused build carries out nothing.
-pub fn rehearse<'a>(
+pub fn rehearse(
     n: u64,
     lookahead: SimDuration,
-    ids: &'a [u32],
-    sources: &'a [u32],
-    counts: &'a [u64],
-    destinations: &'a [u32],
-    lookaheads: &'a [u64],
-    words: &'a [u64],
+    ids: &[u32],
+    rows: Rows<'_>,
+    words: &[u64],
 ) -> RehearsalResult
-    ensures { Rehearses (setup n (duration_of lookahead) ids.now sources.now counts.now destinations.now (lookaheads_for destinations.now lookaheads.now)) words.now result }
+    ensures { Rehearses (setup n (duration_of lookahead) ids.now rows.entry.sources.now rows.entry.counts.now rows.entry.destinations.now (lookaheads_for rows.entry.destinations.now rows.entry.lookaheads.now)) words.now result }
 {
-    let answer = build::check(n, lookahead, ids, sources, counts, destinations, lookaheads);
-    if let BuildAnswer::Accepted = answer {
-        return rehearse_accepted(
-            n,
-            lookahead,
-            sources,
-            counts,
-            destinations,
-            lookaheads,
-            words,
-        );
-    }
-    RehearsalResult {
-        answer: answer,
-        state: Runtime {
-            edges: [0; 3072],
-            pending: [0; 4096],
-            processes: [0; 256],
-            batch: [0; 512],
-            head: build::empty_header(),
+    match build::check(n, lookahead, ids, rows) {
+        Ok(()) => rehearse_accepted(n, lookahead, rows, words),
+        Err(refusal) => RehearsalResult {
+            answer: Err(refusal),
+            state: build::empty_runtime(),
+            counters: state::zero_counters(),
+            calls: 0,
         },
-        counters: state::zero_counters(),
-        calls: 0,
     }
 }
