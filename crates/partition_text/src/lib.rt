@@ -30,7 +30,7 @@ fn number_of(answer: Result<u64, PlanRefusal>) -> u64
     }
 }
 
-// The values that come with an answer.
+// The values that come with an answer: none, one or two, so that an Option would not do.
 #[derive(Clone, Copy)]
 enum PlanValues {
     Nothing,

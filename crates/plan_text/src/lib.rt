@@ -2,6 +2,10 @@
 //
 // A line is made in an array of its own, from its end to its front, so that no digit has to be counted first; then it is
 // copied behind what stands in the bytes. A place past the end of the bytes says that the listing does not fit.
+//
+// The bytes and the place stay two arguments, and the place a number: the bytes are the slice that a caller in C lends, a
+// run goes on where its listing does not fit (39 is told last), and Appends and Finishes (specs/Appends.antt) say of each
+// place what is there.
 
 #![tactic(auto)]
 
@@ -38,7 +42,8 @@ fn put_decimal(line: &mut [u8], end: usize, n: u64) -> usize
     i
 }
 
-// A hexadecimal digit in lower case.
+// A hexadecimal digit in lower case. Kept by hand: `char::from_digit` answers an Option of a character, which would be
+// unwrapped and cast.
 fn hex_digit(d: u64) -> u8
     requires { d < 16 }
     ensures { result ≡ nibble d }
