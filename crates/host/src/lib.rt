@@ -17,48 +17,37 @@ ghost use Rattle.runtime.specs.Executes.{Executes};
 ghost use Rattle.reads.specs.Reads.{Reads};
 ghost use Rattle.host.specs.HostBuildResult.{build_result_of};
 
-use build::BuildAnswer;
-use reads::ReadAnswer;
+use build::BuildRefusal;
+use build_topology::Rows;
+use reads::Reading;
 use reply_words::Emission;
-use state::{Answer, Counters, Message, Runtime};
+use state::{Answer, Counters, Message, Refusal, Runtime};
 use types::{SimDuration, SimTime};
 
 // What build gives a host: its answer and the runtime made.
 #[derive(Clone, Copy)]
 pub struct HostBuildResult {
-    pub answer: BuildAnswer,
+    pub answer: Result<(), BuildRefusal>,
     pub state: Runtime,
 }
 
 // What a call on a runtime gives a host: its answer and the runtime left.
 #[derive(Clone, Copy)]
 pub struct HostCallResult {
-    pub answer: Answer,
+    pub answer: Result<Answer, Refusal>,
     pub state: Runtime,
 }
 
-pub fn build<'a>(
+pub fn build(
     n: u64,
     lookahead: SimDuration,
-    ids: &'a [u32],
-    sources: &'a [u32],
-    counts: &'a [u64],
-    destinations: &'a [u32],
-    lookaheads: &'a [u64],
+    ids: &[u32],
+    rows: Rows<'_>,
     counters: &mut Counters,
 ) -> HostBuildResult
-    ensures { Builds (setup n (duration_of lookahead) ids.now sources.now counts.now destinations.now (lookaheads_for destinations.now lookaheads.now)) counters.old (build_result_of result counters.new) }
+    ensures { Builds (setup n (duration_of lookahead) ids.now rows.entry.sources.now rows.entry.counts.now rows.entry.destinations.now (lookaheads_for rows.entry.destinations.now rows.entry.lookaheads.now)) counters.old (build_result_of result counters.new) }
 {
-    let built = runtime::build(
-        n,
-        lookahead,
-        ids,
-        sources,
-        counts,
-        destinations,
-        lookaheads,
-        *counters,
-    );
+    let built = runtime::build(n, lookahead, ids, rows, *counters);
     *counters = built.counters;
     HostBuildResult {
         answer: built.answer,
@@ -116,12 +105,12 @@ pub fn hand_back(
     ensures { Executes (HandBack mask (reply_of reply.now)) state counters.old result.answer result.state counters.new }
 {
     let opened = host_hand_back::open(state, mask);
-    let start = opened.scan;
-    let scan = host_reply::check_records(reply, &opened.words, start);
-    let admission = host_hand_back::admit(scan, reply.len());
+    let start = opened.check;
+    let check = host_reply::check_records(reply, &opened.words, state.head, start);
+    let admission = host_hand_back::admit(state.head, check, reply.len());
     let mut left = state;
     let queued = host_reply::enqueue_records(reply, &mut left.pending, admission);
-    let closed = host_hand_back::close(left, *counters, scan, queued, reply.len());
+    let closed = host_hand_back::close(left, *counters, check, queued, reply.len());
     *counters = closed.counters;
     HostCallResult {
         answer: closed.answer,
@@ -129,25 +118,25 @@ pub fn hand_back(
     }
 }
 
-pub fn read_gvt(state: Runtime, counters: &Counters) -> ReadAnswer
+pub fn read_gvt(state: Runtime, counters: &Counters) -> Result<Reading, Refusal>
     ensures { Reads read_gvt state counters.now result }
 {
     reads::read_gvt(state, *counters)
 }
 
-pub fn read_counters(state: Runtime, counters: &Counters) -> ReadAnswer
+pub fn read_counters(state: Runtime, counters: &Counters) -> Result<Reading, Refusal>
     ensures { Reads read_counters state counters.now result }
 {
     reads::read_counters(state, *counters)
 }
 
-pub fn read_pending(state: Runtime, counters: &Counters) -> ReadAnswer
+pub fn read_pending(state: Runtime, counters: &Counters) -> Result<Reading, Refusal>
     ensures { Reads read_pending state counters.now result }
 {
     reads::read_pending(state, *counters)
 }
 
-pub fn read_earliest(state: Runtime, counters: &Counters) -> ReadAnswer
+pub fn read_earliest(state: Runtime, counters: &Counters) -> Result<Reading, Refusal>
     ensures { Reads read_earliest state counters.now result }
 {
     reads::read_earliest(state, *counters)

@@ -1,160 +1,170 @@
 -- What each return of the parts behind the first pass gives.
+use Rattle.std.specs.Prelude.{Result, Ok, Err, IsErrAnd}
+use Rattle.std.proofs.lemmas.Result.{err_from_is_err_and}
 use mathlib.Core.Path.{◌≡◌, refl, sym, ap, subst, ◌∙◌}
-use mathlib.Core.Bool.{true, false}
 use mathlib.Core.List.{List}
-use Prim.Native.Nat.{ℕ, ◌+◌}
+use Prim.Native.Nat.{ℕ, ◌+◌, ◌*◌, ◌≤◌}
 use native.Mathlib.Omega.{arith}
 use lib.ListN.{length, length-map}
 use Rattle.rules.specs.Calls.{HandBack}
 use Rattle.rules.specs.Pending.{queue}
 use Rattle.rules.specs.HandBack.{messages}
-use Rattle.rules.proofs.Tests.{by_bool, not_both}
 use Rattle.records.specs.Records.{events_of}
 use Rattle.reply_words.specs.declared.Emission.{Emission}
 use Rattle.reply_words.specs.Emissions.{emission_of}
-use Rattle.hand_back_emission.specs.declared.CheckResult.{CheckResult}
 use Rattle.hand_back_emission.proofs.InHand.{findable}
 use Rattle.hand_back_enqueue.specs.declared.Tail.{Tail}
+use Rattle.hand_back_enqueue.specs.Enqueued.{Enqueueable, Enqueued}
 use Rattle.hand_back_check.specs.declared.ReplyCheck.{ReplyCheck}
 use Rattle.hand_back_check.specs.Checks.{Checked}
-use Rattle.hand_back_check.proofs.Checking.{was_going}
-use Rattle.hand_back_commit.specs.Commits.{InHand, ReplyChecked, Finishes, Fits, FinalCheck, CanEnd, Ends}
+use Rattle.hand_back_commit.specs.Commits.{InHand, ReplyChecked, Finishes, Fits, FinalCheck, Ends}
 use Rattle.hand_back_commit.proofs.Ending.{endable}
-use Rattle.hand_back.specs.ReplyChecks.{ChecksReply}
+use Rattle.hand_back.specs.ReplyChecks.{as_given_to, ChecksReply, LetsPass}
 use Rattle.hand_back.proofs.ReplyChecking as Review
 use Rattle.state.specs.declared.Header.{Header}
 use Rattle.state.specs.declared.Runtime.{Runtime}
 use Rattle.state.specs.declared.Counters.{Counters}
+use Rattle.state.specs.declared.Refusal.{Refusal}
 use Rattle.state.specs.ValidArrays.{ValidArrays}
 use Rattle.state.proofs.Facts.{in_order, newest}
 use Rattle.runtime.specs.declared.CallResult.{CallResult}
 use Rattle.runtime.specs.Executes.{Executes}
 use Rattle.runtime.proofs.Executing.{carries_back}
-use Rattle.host_hand_back.specs.declared.Scan.{Scan}
 use Rattle.host_hand_back.specs.declared.Opened.{Opened}
-use Rattle.host_hand_back.specs.declared.Admission.{Admission}
 use Rattle.host_hand_back.specs.Passes.{reply_of, places_in, look_of, Scanned, Admitted, Queued}
-use Rattle.host_hand_back.specs.Parts.{Opens, AdmissionOf, given_back, after_of, CommitsTo, PoisonsTo, Closable, with_pending, Closes}
-use Rattle.host_hand_back.proofs.Opening.{unmoved_back}
+use Rattle.host_hand_back.specs.Parts.{Starts, OpensFrom, Opens, tail_of, AdmissionOf, given_back, after_of, CommitsTo, PoisonsTo, Closable, with_pending, Closes}
 
--- What all checks say.
-module _ (a : ReplyCheck) (h : Header) (k : ℕ) where
-  abbrev tail : Tail
-  tail = record { count = h.pending; next = h.next }
+err_in : {A : Type 0} → Refusal → Result A Refusal → Refusal
+err_in d (Ok a) = d
+err_in d (Err x) = x
 
-  pub admission_stopped : a.going ≡ false → AdmissionOf a h k (record { admitted = false; outcome = a.outcome; tail = tail })
-  admission_stopped g = record { tail = refl; stopped = λ _. refl; admits = λ y. not_both y g; checked = λ y. not_both y g }
+same_err : {A : Type 0} (x y : Refusal) → ◌≡◌ {A = Result A Refusal} (Err x) (Err y) → x ≡ y
+unfolding err_in
+same_err x y e = ap (err_in x) e
 
-  pub admission_checked : a.going ≡ true → (v : CheckResult) → FinalCheck a h.next h.pending k v → AdmissionOf a h k (record { admitted = v.passed; outcome = v; tail = tail })
-  admission_checked g v f = record { tail = refl; stopped = λ y. not_both g y; admits = λ _. refl; checked = λ _. f }
+-- What the first pass, from the start a, says of a reply of the emissions ys.
+module _ (s : Runtime) (mask : ℕ) (D : List ℕ) (a : ReplyCheck) (w : Starts s mask a D) (ys : List Emission) where
+  checks_reply : (r : Result ReplyCheck Refusal) → Scanned D s.head (Ok a) ys r → ChecksReply s.head s.edges s.processes s.batch mask (reply_of ys) r
+  checks_reply r t =
+      let d = w.tables in
+      let c : Checked s.head (look_of D) (places_in D) s.processes s.batch a (reply_of ys) r = rw (d.processes_are, d.batch_is) at t in
+      Review.checks_reply s.head s.edges s.processes s.batch mask a (places_in D) (Review.ready s.head s.edges s.pending s.processes s.batch w.lent) w.lent.process_words w.lent.batch_words d.started (look_of D) d.looks (reply_of ys) r c
 
--- The first pass went over the emissions ys.
-module _ (s : Runtime) (mask : ℕ) (o : Opened) (ys : List Emission) (a : Scan) (w : Opens s mask o) (t : Scanned o.words o.scan ys a) where
-  was : a.check.going ≡ true → o.scan.check.going ≡ true
-  was g = was_going _ _ _ _ _ _ w.begun (reply_of ys) a.check t.checked g
+-- It stopped, or did not begin.
+given_back_from : (s : Runtime) (mask : ℕ) (D : List ℕ) (r : Result ReplyCheck Refusal) → OpensFrom s mask r D → (ys : List Emission) (x : Refusal) → Scanned D s.head r ys (Err x) → (c : Counters)
+    → Executes (HandBack mask (reply_of ys)) s c (Err x) s c
+given_back_from s mask D (Ok a) w ys x t c = carries_back s c (as_given_to s.head c x) s.pending s.processes s.batch mask (reply_of ys) (checks_reply s mask D a w ys (Err x) t c s.pending w.lent)
+given_back_from s mask D (Err y) w ys x t c = rw (same_err x y t) (w (reply_of ys) c)
 
-  module _ (g : o.scan.check.going ≡ true) where
-    l : ValidArrays s.head s.edges s.pending s.processes s.batch
-    l = w.lent g
+-- It went on to the last emission, and a says how far it came.
+record Passed (s : Runtime) (mask : ℕ) (ys : List Emission) (a : ReplyCheck) : Type 0 where
+  pub lent : ValidArrays s.head s.edges s.pending s.processes s.batch
+  pub passes : LetsPass s.head s.edges s.processes s.batch mask (reply_of ys) a
 
-    checks_reply : ChecksReply s.head s.edges s.processes s.batch mask (reply_of ys) a.check
-    checks_reply =
-        let b = (w.tabled g).begins in
-        let d = (w.tabled g).tables g in
-        let c : Checked s.head (look_of o.words) (places_in o.words) s.processes s.batch o.scan.check (reply_of ys) a.check = rw (w.same_head, d.processes_are, d.batch_is) at t.checked in
-        Review.checks_reply s.head s.edges s.processes s.batch mask o.scan.check (places_in o.words)
-        (Review.ready s.head s.edges s.pending s.processes s.batch l) l.process_words l.batch_words b (look_of o.words) d.looks (reply_of ys) a.check c
+passed_from : (s : Runtime) (mask : ℕ) (D : List ℕ) (r : Result ReplyCheck Refusal) → OpensFrom s mask r D → (ys : List Emission) (a : ReplyCheck) → Scanned D s.head r ys (Ok a) → Passed s mask ys a
+passed_from s mask D (Ok b) w ys a t = record { lent = w.lent; passes = checks_reply s mask D b w ys (Ok a) t }
+passed_from s mask D (Err y) w ys a t = absurd cc
 
-  -- It stopped.
-  pub given_back_holds : (c : Counters) → a.check.going ≡ false → Executes (HandBack mask (reply_of ys)) s c a.check.outcome.answer s c
-  given_back_holds c n =
-      by_bool o.scan.check.going
-      (λ g. unmoved_back s c mask (reply_of ys) a.check ((checks_reply g).refused n c s.pending (l g)))
-      (λ g. rw (t.checked.stopped g) (w.refused g (reply_of ys) c))
+module _ (s : Runtime) (mask : ℕ) (ys : List Emission) (a : ReplyCheck) (v : Passed s mask ys a) where
+  in_hand_holds : InHand s.head s.edges s.pending s.processes s.batch
+  in_hand_holds = let p = v.passes.passed in record { lent = v.lent; healthy = p.healthy; in_hand_holds = omega (arith, p.in_hand_holds) }
 
-  -- It went on.
-  pub in_hand_holds : a.check.going ≡ true → InHand s.head s.edges s.pending s.processes s.batch
-  in_hand_holds g = let p = (checks_reply (was g)).passed g in record { lent = l (was g); healthy = p.healthy; in_hand_holds = omega (arith, p.in_hand_holds) }
+  module _ (k : ℕ) (e : length ys ≡ k) where
+    reply_checked : ReplyChecked s.head s.edges s.pending s.processes s.batch a mask k (reply_of ys)
+    reply_checked = subst (λ (n : ℕ). ReplyChecked s.head s.edges s.pending s.processes s.batch a mask n (reply_of ys)) (length-map ys emission_of ∙ e) (v.passes.checked s.pending)
 
-  reply_checked : (k : ℕ) → length ys ≡ k → a.check.going ≡ true → ReplyChecked s.head s.edges s.pending s.processes s.batch a.check mask k (reply_of ys)
-  reply_checked k e g = subst (λ (n : ℕ). ReplyChecked s.head s.edges s.pending s.processes s.batch a.check mask n (reply_of ys)) (length-map ys emission_of ∙ e) ((checks_reply (was g)).checked g s.pending)
+    enqueueable : Fits s.head.next s.head.pending k → Enqueueable (tail_of s.head) (length ys) s.pending
+    enqueueable f = record {
+      places = omega (arith, f.room, e, v.lent.pending_words);
+      numbers = omega (arith, f.in_time, e);
+      ordered = in_order s.head s.edges s.pending s.processes s.batch v.lent.passes;
+      newest = newest s.head s.edges s.pending s.processes s.batch v.lent.passes;
+    }
 
-  -- All checks were made.
-  module _ (k : ℕ) (p : Admission) (x : AdmissionOf a.check a.head k p) (e : length ys ≡ k) where
-    d : AdmissionOf a.check s.head k p
-    d = subst (λ (h : Header). AdmissionOf a.check h k p) (t.same_head ∙ w.same_head) x
-
-    fits : a.check.going ≡ true → p.outcome.passed ≡ true → Fits s.head.next s.head.pending k
-    fits g y = ((d.checked g).passes y).1
-
-    went_on : p.admitted ≡ true → a.check.going ≡ true
-    went_on y = by_bool a.check.going (λ g. g) (λ g. not_both y (d.stopped g))
-
-    pub admitted : Admitted s.pending p ys
-    admitted y =
-        let g = went_on y in
-        let f = fits g (sym (d.admits g) ∙ y) in
-        rw d.tail (record {
-          places = omega (arith, f.room, e, (in_hand_holds g).lent.pending_words);
-          numbers = omega (arith, f.in_time, e);
-          ordered = in_order s.head s.edges s.pending s.processes s.batch (in_hand_holds g).lent.passes;
-          newest = newest s.head s.edges s.pending s.processes s.batch (in_hand_holds g).lent.passes;
-        })
+    batch_there : 8 * s.head.batch ≤ length s.batch
+    batch_there = (findable s.head s.edges s.pending s.processes s.batch v.lent).0
 
     -- The second pass went over them too, and left the pending words u.
-    module _ (u : List ℕ) (b : Admission) (z : Queued s.pending p ys u b) where
-      was-admitted : a.check.going ≡ true → b.outcome.passed ≡ true → p.admitted ≡ true
-      was-admitted g y = d.admits g ∙ rw (← z.same_verdict) y
+    module _ (u : List ℕ) (c : Counters) (r : CallResult) where
+      committed : FinalCheck a s.head.next s.head.pending k (Ok tt) → (t : Tail) → Enqueued (tail_of s.head) (reply_of ys) s.pending t u → CommitsTo (with_pending s u) c a k r → Executes (HandBack mask (reply_of ys)) s c r.answer r.state r.counters
+      unfolding Ends
+      committed f t q m =
+          let n : length (reply_of ys) ≡ k = length-map ys emission_of ∙ e in
+          let l : events_of (s.head.pending + k) u ≡ queue (events_of s.head.pending s.pending) s.head.next (messages (reply_of ys)) = rw n at q.events in
+          subst (λ (i : Runtime). Executes (HandBack mask (reply_of ys)) s c r.answer i r.counters) (sym m.left)
+          (carries_back s c (after_of r) u r.state.processes r.state.batch mask (reply_of ys) (m.ends s.edges s.pending a in_hand_holds f.0 refl mask (reply_of ys) reply_checked l))
 
-      can_end : a.check.going ≡ true → b.outcome.passed ≡ true → CanEnd s.head u s.processes s.batch k
-      can_end g y = endable s.head s.edges s.pending s.processes s.batch u k (in_hand_holds g) (fits g (rw (← z.same_verdict) y)) ((z.queued (was-admitted g y)).same ∙ (in_hand_holds g).lent.pending_words)
+      poisoned : (x : Refusal) → FinalCheck a s.head.next s.head.pending k (Err x) → u ≡ s.pending → PoisonsTo (with_pending s u) c x r → Executes (HandBack mask (reply_of ys)) s c r.answer r.state r.counters
+      unfolding Finishes
+      poisoned x f q m =
+          subst (λ (i : Runtime). Executes (HandBack mask (reply_of ys)) s c r.answer i r.counters) (sym (m.left ∙ ap (λ (p : List ℕ). record { edges = s.edges; pending = p; processes = s.processes; batch = r.state.batch; head = r.state.head }) q))
+          (carries_back s c (after_of r) s.pending s.processes r.state.batch mask (reply_of ys) (f s.head c s.edges s.pending s.processes s.batch (after_of r) r.state.batch refl refl in_hand_holds m.poisons mask (reply_of ys) reply_checked))
 
-      pub closable : Closable (with_pending s u) a b k
-      closable = record { batch_words = λ g. (findable s.head s.edges s.pending s.processes s.batch (in_hand_holds g).lent).0; can_end = can_end }
+-- What all checks say of a reply asks for the second pass, and behind it for the end.
+module _ (s : Runtime) (mask : ℕ) (o : Opened) (ys : List Emission) (w : Opens s mask o) where
+  pub admitted : (r : Result ReplyCheck Refusal) → Scanned o.words s.head o.check ys r → (p : Result Tail Refusal) → AdmissionOf r s.head (length ys) p → Admitted s.pending p ys
+  admitted (Ok a) t (Ok q) d = rw d.0 (enqueueable s mask ys a (passed_from s mask o.words o.check w ys a t) (length ys) refl d.1.1)
+  admitted r t (Err y) d = tt
+  admitted (Err x) t (Ok q) d = absurd cc
 
-      -- Where the round is not admitted, the pending words are those from before.
-      pub unqueued : a.check.going ≡ false → u ≡ s.pending
-      unqueued g = z.untouched (d.stopped g)
+  pub closable : (r : Result ReplyCheck Refusal) → Scanned o.words s.head o.check ys r → (p : Result Tail Refusal) → AdmissionOf r s.head (length ys) p → (u : List ℕ) (q : Result Tail Refusal) → Queued s.pending p ys u q → Closable (with_pending s u) r q (length ys)
+  closable (Err x) t p d u q z = tt
+  closable (Ok a) t (Ok g) d u (Ok h) z =
+      let v = passed_from s mask o.words o.check w ys a t in
+      endable s.head s.edges s.pending s.processes s.batch u (length ys) (in_hand_holds s mask ys a v) d.1.1 (z.same ∙ v.lent.pending_words)
+  closable (Ok a) t (Ok g) d u (Err y) z = absurd z
+  closable (Ok a) t (Err x) d u (Ok h) z = absurd cc
+  closable (Ok a) t (Err x) d u (Err y) z = batch_there s mask ys a (passed_from s mask o.words o.check w ys a t) (length ys) refl
 
-      module _ (c : Counters) (g : a.check.going ≡ true) where
-        final : FinalCheck a.check s.head.next s.head.pending k b.outcome
-        final = rw z.same_verdict (d.checked g)
+-- What all checks say, where the first pass stopped, where they refuse, and where the round is admitted.
+module _ (r : Result ReplyCheck Refusal) (h : Header) (k : ℕ) where
+  pub admission_stopped : (x : Refusal) → r ≡ Err x → (p : Result Tail Refusal) → IsErrAnd p (λ y. y ≡ x) → AdmissionOf r h k p
+  admission_stopped x e p i = let j = err_from_is_err_and p i in rw e (j.1 ∙ ap Err j.2)
 
-        pub committed : b.outcome.passed ≡ true → (r : CallResult) → CommitsTo (with_pending s u) c a.check k r → Executes (HandBack mask (reply_of ys)) s c r.answer r.state r.counters
-        unfolding Ends
-        committed y r m =
-            let n : length (reply_of ys) ≡ k = length-map ys emission_of ∙ e in
-            let v : events_of (s.head.pending + k) u ≡ queue (events_of s.head.pending s.pending) s.head.next (messages (reply_of ys)) = rw (d.tail, n) at (z.queued (was-admitted g y)).events in
-            subst (λ (i : Runtime). Executes (HandBack mask (reply_of ys)) s c r.answer i r.counters) (sym m.left)
-            (carries_back s c (after_of r) u r.state.processes r.state.batch mask (reply_of ys) (m.ends s.edges s.pending a.check (in_hand_holds g) (final.passes y).0 refl mask (reply_of ys) (reply_checked k e g) v))
+  module _ (a : ReplyCheck) (e : r ≡ Ok a) where
+    pub admission_lost : (x : Refusal) → FinalCheck a h.next h.pending k (Err x) → (p : Result Tail Refusal) → IsErrAnd p (λ y. y ≡ x) → AdmissionOf r h k p
+    admission_lost x f p i = let j = err_from_is_err_and p i in rw (e, j.1, j.2) f
 
-        pub poisoned : b.outcome.passed ≡ false → (r : CallResult) → PoisonsTo (with_pending s u) c b.outcome.answer r → Executes (HandBack mask (reply_of ys)) s c r.answer r.state r.counters
-        unfolding Finishes
-        poisoned y r m =
-            let f : u ≡ s.pending = z.untouched (d.admits g ∙ rw (← z.same_verdict) y) in
-            subst (λ (i : Runtime). Executes (HandBack mask (reply_of ys)) s c r.answer i r.counters) (sym (m.left ∙ ap (λ (q : List ℕ). record { edges = s.edges; pending = q; processes = s.processes; batch = r.state.batch; head = r.state.head }) f))
-            (carries_back s c (after_of r) s.pending s.processes r.state.batch mask (reply_of ys) (final.loses y s.head c s.edges s.pending s.processes s.batch (after_of r) r.state.batch refl refl (in_hand_holds g) m.poisons mask (reply_of ys) (reply_checked k e g)))
+    pub admission_passed : FinalCheck a h.next h.pending k (Ok tt) → AdmissionOf r h k (Ok (tail_of h))
+    admission_passed f = rw e (refl, f)
 
 -- The end of a call, with s the runtime after the second pass.
-module _ (s : Runtime) (c : Counters) (a : Scan) (b : Admission) (k : ℕ) where
-  pub closes_as_given : a.check.going ≡ false → (r : CallResult) → r ≡ given_back s c a.check → Closes s c a b k r
+module _ (s : Runtime) (c : Counters) where
+  unadmitted : (Q : List ℕ) (ys : List Emission) (x : Refusal) (h : Header) (k : ℕ) (p q : Result Tail Refusal) → p ≡ Err x → Queued Q p ys s.pending q → s.pending ≡ Q
+  unadmitted Q ys x h k (Err y) q e z = z.1
+  unadmitted Q ys x h k (Ok t) q e z = absurd cc
+
+  pub closes_as_given : (x : Refusal) (q : Result Tail Refusal) (k : ℕ) (r : CallResult) → r ≡ given_back s c x → Closes s c (Err x) q k r
   unfolding Closes
-  closes_as_given g r e Q mask o ys p w t d z n =
+  closes_as_given x q k r e Q mask o ys p w t d z n =
       let i = with_pending s Q in
-      subst (λ (x : CallResult). Executes (HandBack mask (reply_of ys)) i c x.answer x.state x.counters) (sym e)
-      (subst (λ (q : List ℕ). Executes (HandBack mask (reply_of ys)) i c a.check.outcome.answer (with_pending s q) c) (sym (unqueued i mask o ys a w t k p d n s.pending b z g)) (given_back_holds i mask o ys a w t c g))
+      subst (λ (y : CallResult). Executes (HandBack mask (reply_of ys)) i c y.answer y.state y.counters) (sym e)
+      (subst (λ (u : List ℕ). Executes (HandBack mask (reply_of ys)) i c (Err x) (with_pending s u) c) (sym (unadmitted Q ys x s.head k p q d z)) (given_back_from i mask o.words o.check w ys x t c))
 
-  module _ (g : a.check.going ≡ true) where
-    pub closes_committed : b.outcome.passed ≡ true → (r : CallResult) → CommitsTo s c a.check k r → Closes s c a b k r
-    unfolding Closes
-    closes_committed x r m Q mask o ys p w t d z n = committed (with_pending s Q) mask o ys a w t k p d n s.pending b z c g x r m
+  pub closes_committed : (a : ReplyCheck) (t : Tail) (k : ℕ) (r : CallResult) → CommitsTo s c a k r → Closes s c (Ok a) (Ok t) k r
+  unfolding Closes
+  closes_committed a t k r m Q mask o ys p w f d z n = committed_by p d z
+    where
+      v : Passed (with_pending s Q) mask ys a
+      v = passed_from (with_pending s Q) mask o.words o.check w ys a f
 
-    pub closes_poisoned : b.outcome.passed ≡ false → (r : CallResult) → PoisonsTo s c b.outcome.answer r → Closes s c a b k r
-    unfolding Closes
-    closes_poisoned x r m Q mask o ys p w t d z n = poisoned (with_pending s Q) mask o ys a w t k p d n s.pending b z c g x r m
+      committed_by : (p : Result Tail Refusal) → AdmissionOf (Ok a) s.head k p → Queued Q p ys s.pending (Ok t) → Executes (HandBack mask (reply_of ys)) (with_pending s Q) c r.answer r.state r.counters
+      committed_by (Ok g) d z = committed (with_pending s Q) mask ys a v k n s.pending c r d.1 t (rw d.0 at z) m
+      committed_by (Err y) d z = absurd cc
+
+  pub closes_poisoned : (a : ReplyCheck) (x : Refusal) (k : ℕ) (r : CallResult) → PoisonsTo s c x r → Closes s c (Ok a) (Err x) k r
+  unfolding Closes
+  closes_poisoned a x k r m Q mask o ys p w f d z n = poisoned_by p d z
+    where
+      v : Passed (with_pending s Q) mask ys a
+      v = passed_from (with_pending s Q) mask o.words o.check w ys a f
+
+      poisoned_by : (p : Result Tail Refusal) → AdmissionOf (Ok a) s.head k p → Queued Q p ys s.pending (Err x) → Executes (HandBack mask (reply_of ys)) (with_pending s Q) c r.answer r.state r.counters
+      poisoned_by (Ok g) d z = absurd z
+      poisoned_by (Err y) d z = poisoned (with_pending s Q) mask ys a v k n s.pending c r x (rw (sym (same_err x y z.0)) at d) z.1 m
 
 -- So a reply that was passed twice, which made u of the pending words, is handed back.
-pub carries : (s : Runtime) (c : Counters) (mask : ℕ) (o : Opened) (ys : List Emission) (a : Scan) (p b : Admission) (u : List ℕ) (r : CallResult) → Opens s mask o → Scanned o.words o.scan ys a → AdmissionOf a.check a.head (length ys) p
-    → Queued s.pending p ys u b → Closes (with_pending s u) c a b (length ys) r → Executes (HandBack mask (reply_of ys)) s c r.answer r.state r.counters
+pub carries : (s : Runtime) (c : Counters) (mask : ℕ) (o : Opened) (ys : List Emission) (a : Result ReplyCheck Refusal) (p q : Result Tail Refusal) (u : List ℕ) (r : CallResult) → Opens s mask o → Scanned o.words s.head o.check ys a → AdmissionOf a s.head (length ys) p
+    → Queued s.pending p ys u q → Closes (with_pending s u) c a q (length ys) r → Executes (HandBack mask (reply_of ys)) s c r.answer r.state r.counters
 unfolding Closes
-carries s c mask o ys a p b u r w t d z k = k s.pending mask o ys p w t d z refl
+carries s c mask o ys a p q u r w t d z k = k s.pending mask o ys p w t d z refl

@@ -1,15 +1,15 @@
 -- Words copied one behind the other, and the parts that they make.
-use mathlib.Core.Path.{◌≡◌, refl, sym, ap, ◌∙◌}
+use mathlib.Core.Path.{◌≡◌, sym, ap, ◌∙◌}
 use mathlib.Core.Logic.{⊎_elim}
-use mathlib.Core.List.{List, [], ◌∷◌, ◌++◌, append_assoc, append-nil}
-use Prim.Native.Nat.{ℕ, suc, ◌+◌, ◌*◌, ◌≤◌, ◌<◌}
+use mathlib.Core.List.{List, ◌++◌, append_assoc}
+use Prim.Native.Nat.{ℕ, ◌+◌, ◌*◌, ◌≤◌, ◌<◌}
 use native.Mathlib.Omega.{arith}
-use native.Mathlib.Nat.{add-zero}
-use native.Mathlib.Numerals.{add-one}
-use lib.ListN.{length, get_or, set, take, drop, length-set, length-append}
-use lib.Seq.{length-take-le, get_or-take, take_all, take-suc, take-suc-set, take_at, drop-append_seam}
+use lib.ListN.{length, get_or, take, drop, length-append}
+use lib.Seq.{length-take-le, get_or-take, take_all, take_at, drop-append_seam}
 use lib.Dec.{ltb}
 use borrow.Author.Tests.{ltb-true}
+use borrow.Rule.Slice.PartMut.{put_mid}
+use Rattle.std.proofs.lemmas.Slice.{take-put_mid}
 use Rattle.types.proofs.Halves.{lt_or_ge}
 use Rattle.words.proofs.Ticks.{tick_cong}
 use Rattle.rules.specs.Base.{if◌then◌otherwise◌}
@@ -18,45 +18,22 @@ use Rattle.rules.proofs.Tests.{by_bool}
 use Rattle.reply_words.proofs.Table.{past_end}
 use Rattle.hand_back_edges.specs.Looks.{Looks}
 use Rattle.hand_back_edges.specs.Lookaheads.{lookahead_in, FoundLookaheads}
-use Rattle.host_hand_back.specs.Passes.{Copied, Sizes, tables_of, lookaheads_in, places_in, processes_in, batch_in}
-
--- The first i words are copied.
-pub record Copying (at : ℕ) (from w₀ : List ℕ) (i : ℕ) (w : List ℕ) : Type 0 where
-  pub within : i ≤ length from
-  pub same : length w ≡ length w₀
-  pub front : take (at + i) w ≡ take at w₀ ++ take i from
-
-module _ (at : ℕ) (from w₀ : List ℕ) where
-  pub copying_start : Copying at from w₀ 0 w₀
-  copying_start = record { within = omega arith; same = refl; front = rw add-zero (sym (append-nil (take at w₀))) }
-
-  pub copying_more : (i : ℕ) (w : List ℕ) → at + length from ≤ length w₀ → i < length from → Copying at from w₀ i w → Copying at from w₀ (i + 1) (set w (at + i) (get_or from i 0))
-  copying_more i w room l c =
-      let h : at + i < length w = omega (arith, c.same) in
-      let n : at + (i + 1) ≡ suc (at + i) = omega arith in
-      record {
-        within = omega arith;
-        same = length-set w (at + i) (get_or from i 0) ∙ c.same;
-        front = rw (n, add-one) (take-suc-set w (at + i) (get_or from i 0) h ∙ ap (λ (x : List ℕ). x ++ (get_or from i 0 ∷ [])) c.front ∙ append_assoc (take at w₀) (take i from) _ ∙ ap (λ (x : List ℕ). take at w₀ ++ x) (sym (take-suc from i 0 l)));
-      }
-
-  pub copying_end : (i : ℕ) (w : List ℕ) → length from ≤ i → Copying at from w₀ i w → Copied at from w₀ w
-  unfolding Copied
-  copying_end i w l c =
-      let e : length from ≡ i = omega (arith, c.within) in
-      rw e (c.front ∙ ap (λ (x : List ℕ). take at w₀ ++ x) (take_all i from l))
-
--- One part behind the others.
-behind : (n m : ℕ) (X from w u : List ℕ) → n + length from ≡ m → take n w ≡ X → Copied n from w u → take m u ≡ X ++ from
-unfolding Copied
-behind n m X from w u e h c = rw (← e) (c ∙ ap (λ (x : List ℕ). x ++ from) h)
+use Rattle.host_hand_back.specs.Passes.{Sizes, tables_of, lookaheads_in, places_in, processes_in, batch_in}
 
 module _ (w T Z B : List ℕ) (n : length w ≡ 9024) (t : length T ≡ 64) (z : length Z ≡ 256) (b : length B ≡ 512) where
   pub sizes : Sizes (take 8192 w) T Z B
   sizes = record { look_words = length-take-le 8192 w (omega arith); place_words = t; process_words = z; batch_words = b }
 
-  pub filled : (u v y : List ℕ) → length y ≡ 9024 → Copied 8192 T w u → Copied 8256 Z u v → Copied 8512 B v y → y ≡ tables_of (take 8192 w) T Z B
-  filled u v y l f g h = sym (take_all 9024 y (omega arith)) ∙ behind 8512 9024 _ B v y (omega arith) (behind 8256 8512 _ Z u v (omega arith) (behind 8192 8256 _ T w u (omega arith) refl f) g) h
+-- Each of three parts behind the others.
+pub filled : (w T Z B T' Z' B' : List ℕ) → length w ≡ 9024 → length T ≡ 64 → length Z ≡ 256 → length B ≡ 512 → T' ≡ T → Z' ≡ Z → B' ≡ B
+    → let u = put_mid 8192 64 w T' in let v = put_mid 8256 256 u Z' in let y = put_mid 8512 512 v B' in
+    length u ≡ length w → length v ≡ length u → length y ≡ length v → y ≡ tables_of (take 8192 w) T Z B
+filled w T Z B T' Z' B' n t z b e f g i j k =
+    rw (← e, ← f, ← g)
+    (sym (take_all 9024 _ (omega (arith, k, j, i, n)))
+    ∙ take-put_mid 8512 512 _ B' 9024 (omega (arith, ap length g, b)) (omega (arith, j, i, n))
+    ∙ ap (λ (x : List ℕ). x ++ B') (take-put_mid 8256 256 _ Z' 8512 (omega (arith, ap length f, z)) (omega (arith, i, n))
+    ∙ ap (λ (x : List ℕ). x ++ Z') (take-put_mid 8192 64 w T' 8256 (omega (arith, ap length e, t)) (omega (arith, n)))))
 
 -- A part in the middle.
 middle : (A X R : List ℕ) (k n : ℕ) → length A ≡ k → length X ≡ n → take n (drop k ((A ++ X) ++ R)) ≡ X

@@ -1,4 +1,3 @@
 pub mod Filling
 pub mod Opening
-pub mod Passing
 pub mod Closing

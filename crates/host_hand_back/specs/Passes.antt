@@ -1,24 +1,21 @@
 -- The two passes over a reply of emission records: the words that they read and write, and how far each has come.
-use Rattle.std.specs.Prelude.{◌≡◌, true, false, List, [], ◌∷◌, ◌++◌, map, ℕ, ◌+◌, length, take, drop}
+use Rattle.std.specs.Prelude.{◌≡◌, List, ◌++◌, map, ℕ, length, take, drop, Result, Err, IfOk, IsOkAnd, MatchResult}
 use Rattle.types.specs.Value.{lp_id_of}
 use Rattle.rules.specs.HandBack as Rule
 use Rattle.reply_words.specs.declared.Emission.{Emission}
 use Rattle.reply_words.specs.Emissions.{emission_of}
 use Rattle.hand_back_edges.specs.Lookaheads.{lookahead_in}
-use Rattle.hand_back_enqueue.specs.Enqueued as Enqueue
-use Rattle.hand_back_enqueue.specs.Enqueued.{Enqueued}
+use Rattle.hand_back_enqueue.specs.declared.Tail.{Tail}
+use Rattle.hand_back_enqueue.specs.Enqueued.{Enqueueable, Enqueued}
+use Rattle.hand_back_check.specs.declared.ReplyCheck.{ReplyCheck}
 use Rattle.hand_back_check.specs.Checks as Check
-use Rattle.hand_back_check.specs.Checks.{Checks, Checked}
-use Rattle.host_hand_back.specs.declared.Scan.{Scan}
-use Rattle.host_hand_back.specs.declared.Admission.{Admission}
+use Rattle.hand_back_check.specs.Checks.{Checks, CheckStarted, Checked}
+use Rattle.state.specs.declared.Header.{Header}
+use Rattle.state.specs.declared.Refusal.{Refusal}
 
 -- The emissions of a reply of records, as the rules have them.
 abbrev pub reply_of : List Emission → List Rule.Emission
 reply_of ys = map emission_of ys
-
--- The words of `from` stand in u behind the first words of w.
-unfoldable pub Copied : ℕ → List ℕ → List ℕ → List ℕ → Type 0
-Copied at from w u = take (at + length from) u ≡ take at w ++ from
 
 pub record Sizes (lookaheads places processes batch : List ℕ) : Type 0 where
   pub look_words : length lookaheads ≡ 8192
@@ -47,37 +44,22 @@ abbrev pub look_of : List ℕ → ℕ → ℕ → ℕ
 look_of D = lookahead_in (lookaheads_in D)
 
 -- What checking an emission asks of the words D, and what it leaves.
-abbrev pub Checkable : List ℕ → Scan → Type 0
-Checkable D a = a.check.going ≡ true → Check.Checkable a.head (places_in D) (processes_in D) (batch_in D)
+abbrev pub Checkable : List ℕ → Header → Type 0
+Checkable D h = Check.Checkable h (places_in D) (processes_in D) (batch_in D)
 
-pub record ChecksNext (D : List ℕ) (a : Scan) (e : Emission) (r : Scan) : Type 0 where
-  pub same_head : r.head ≡ a.head
-  pub checks : Checks a.head (look_of D (lp_id_of e.emitter) (lp_id_of e.destination)) (places_in D) (processes_in D) (batch_in D) a.check e r.check
+abbrev pub ChecksNext : List ℕ → Header → ReplyCheck → Emission → Result ReplyCheck Refusal → Type 0
+ChecksNext D h a e r = Checks h (look_of D (lp_id_of e.emitter) (lp_id_of e.destination)) (places_in D) (processes_in D) (batch_in D) a e r
 
--- The same of all emissions.
-abbrev pub Begun : List ℕ → Scan → Type 0
-Begun D a = Check.CheckStarted a.head (places_in D) (processes_in D) (batch_in D) a.check
+-- The same of all emissions. A reply that is refused before the first of them stays so.
+abbrev pub Begun : List ℕ → Header → Result ReplyCheck Refusal → Type 0
+Begun D h s = IfOk s (λ a. CheckStarted h (places_in D) (processes_in D) (batch_in D) a)
 
-pub record Scanned (D : List ℕ) (a : Scan) (ys : List Emission) (r : Scan) : Type 0 where
-  pub same_head : r.head ≡ a.head
-  pub checked : Checked a.head (look_of D) (places_in D) (processes_in D) (batch_in D) a.check (reply_of ys) r.check
+abbrev pub Scanned : List ℕ → Header → Result ReplyCheck Refusal → List Emission → Result ReplyCheck Refusal → Type 0
+Scanned D h s ys r = MatchResult s (λ a. Checked h (look_of D) (places_in D) (processes_in D) (batch_in D) a (reply_of ys) r) (λ x. r ≡ Err x)
 
--- What queueing an emission asks of the pending words, and what it leaves: the words as they were, where the round is not admitted.
-abbrev pub Enqueueable : List ℕ → Admission → Type 0
-Enqueueable w a = a.admitted ≡ true → Enqueue.Enqueueable a.tail 1 w
+-- What queueing all emissions asks of the pending words, and what it leaves: the words as they were, where the round is not admitted.
+abbrev pub Admitted : List ℕ → Result Tail Refusal → List Emission → Type 0
+Admitted w p ys = IfOk p (λ t. Enqueueable t (length ys) w)
 
-pub record EnqueuesNext (w : List ℕ) (a : Admission) (e : Emission) (u : List ℕ) (r : Admission) : Type 0 where
-  pub same_admitted : r.admitted ≡ a.admitted
-  pub same_verdict : r.outcome ≡ a.outcome
-  pub queued : a.admitted ≡ true → Enqueued a.tail (emission_of e ∷ []) w r.tail u
-  pub untouched : a.admitted ≡ false → u ≡ w
-
--- The same of all emissions.
-abbrev pub Admitted : List ℕ → Admission → List Emission → Type 0
-Admitted w a ys = a.admitted ≡ true → Enqueue.Enqueueable a.tail (length ys) w
-
-pub record Queued (w : List ℕ) (a : Admission) (ys : List Emission) (u : List ℕ) (r : Admission) : Type 0 where
-  pub same_admitted : r.admitted ≡ a.admitted
-  pub same_verdict : r.outcome ≡ a.outcome
-  pub queued : a.admitted ≡ true → Enqueued a.tail (reply_of ys) w r.tail u
-  pub untouched : a.admitted ≡ false → u ≡ w
+abbrev pub Queued : List ℕ → Result Tail Refusal → List Emission → List ℕ → Result Tail Refusal → Type 0
+Queued w p ys u r = MatchResult p (λ t. IsOkAnd r (λ v. Enqueued t (reply_of ys) w v u)) (λ x. (r ≡ Err x) × (u ≡ w))

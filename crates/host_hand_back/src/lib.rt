@@ -3,65 +3,37 @@
 
 #![tactic(auto)]
 
-ghost use Rattle.std.specs.Prelude.{◌≡◌, ◌+◌, ◌*◌, ◌≤◌, length, take};
+ghost use Rattle.std.specs.Prelude.{◌≡◌, ◌*◌, ◌≤◌, length, take};
 ghost use Rattle.words.specs.Words.{zeroes};
+ghost use Rattle.reply_words.specs.Emissions.{emission_of};
+ghost use Rattle.hand_back_enqueue.specs.Enqueued.{Enqueueable, Enqueues};
 ghost use Rattle.hand_back_commit.specs.Commits.{CanEnd};
 ghost use Rattle.hand_back.specs.ReplyChecks.{Ready};
-ghost use Rattle.host_hand_back.specs.Passes.{tables_of, Copied, Checkable, ChecksNext, Enqueueable, EnqueuesNext};
-ghost use Rattle.host_hand_back.specs.Parts.{runtime_of, opened_of, Tabled, Opens, AdmissionOf, given_back, CommitsTo, PoisonsTo, Closable, Closes};
+ghost use Rattle.host_hand_back.specs.Passes.{tables_of, Checkable, ChecksNext};
+ghost use Rattle.host_hand_back.specs.Parts.{Tabled, OpensFrom, Opens, AdmissionOf, given_back, CommitsTo, PoisonsTo, Closable, Closes};
 
-use foreign::is_foreign;
 use hand_back_check::ReplyCheck;
-use hand_back_emission::CheckResult;
 use hand_back_enqueue::Tail;
 use reply_words::Emission;
 use runtime::CallResult;
-use state::{Answer, Counters, Header, Runtime};
-use types::MAX_PROCESSES;
-
-// How far the first pass is, with the header of the state that the reply is for.
-#[derive(Clone, Copy)]
-pub struct Scan {
-    pub head: Header,
-    pub check: ReplyCheck,
-}
+use state::{Counters, Header, Refusal, Runtime};
 
 // What the first pass reads, and where it starts: the lookaheads of all pairs of processes from word 0
 // on, the place of each process's event from 8,192, the table of the processes from 8,256 and the events
-// in hand from 8,512.
+// in hand from 8,512. Nothing is read where the reply is refused before.
 #[derive(Clone, Copy)]
 pub struct Opened {
     pub words: [u64; 9024],
-    pub scan: Scan,
-}
-
-// Whether the round is queued, by what all checks say; and where the next event goes.
-#[derive(Clone, Copy)]
-pub struct Admission {
-    pub admitted: bool,
-    pub outcome: CheckResult,
-    pub tail: Tail,
-}
-
-// The words of `from` go to those of w from `at` on.
-fn copy_at(w: &mut [u64], at: usize, from: &[u64])
-    requires { at + length from.now ≤ length w.old }
-    ensures { Copied at from.now w.old w.new }
-{
-    let mut i: usize = 0;
-    while i < from.len() {
-        w[at + i] = from[i];
-        i += 1;
-    }
+    pub check: Result<ReplyCheck, Refusal>,
 }
 
 fn fill<'a>(words: &mut [u64], places: &'a [u64], processes: &'a [u64], batch: &'a [u64])
     requires { (length words.old ≡ 9024) × (length places.now ≡ 64) × (length processes.now ≡ 256) × (length batch.now ≡ 512) }
     ensures { words.new ≡ tables_of (take 8192 words.old) places.now processes.now batch.now }
 {
-    copy_at(words, 8192, places);
-    copy_at(words, 8256, processes);
-    copy_at(words, 8512, batch);
+    words[8192..8256].copy_from_slice(places);
+    words[8256..8512].copy_from_slice(processes);
+    words[8512..9024].copy_from_slice(batch);
 }
 
 // 12, 25 and 26 of the mask; and the words that the first pass reads, where none of them refuses.
@@ -72,205 +44,127 @@ fn make_tables<'a>(
     batch: &'a [u64],
     mask: u64,
     words: &mut [u64],
-) -> ReplyCheck
+) -> Result<ReplyCheck, Refusal>
     requires { Ready head edges.now batch.now × (length processes.now ≡ 256) × (length batch.now ≡ 512) × (words.old ≡ zeroes 9024) }
     ensures { Tabled head edges.now processes.now batch.now mask result words.new }
 {
     let mut places = [0u64; 64];
-    let start = hand_back::begin_check(head, batch, mask, &mut places);
-    if !start.going {
-        return start;
-    }
+    let start = hand_back::begin_check(head, batch, mask, &mut places)?;
     hand_back_edges::find_lookaheads(edges, head.edges, words);
     fill(words, &places, processes, batch);
-    start
+    Ok(start)
 }
 
 // 11, 12, 25 and 26 of the mask. Where one of them refuses, no emission is looked at.
-fn begin<'a>(
-    head: Header,
-    edges: &'a [u64],
-    pending: &'a [u64],
-    processes: &'a [u64],
-    batch: &'a [u64],
-    mask: u64,
-    words: &mut [u64],
-) -> ReplyCheck
-    requires { (length edges.now ≡ 3072) × (length pending.now ≡ 4096) × (length processes.now ≡ 256) × (length batch.now ≡ 512) × (words.old ≡ zeroes 9024) }
-    ensures { Opens (runtime_of head edges.now pending.now processes.now batch.now) mask (opened_of head result words.new) }
+fn begin(state: &Runtime, mask: u64, words: &mut [u64]) -> Result<ReplyCheck, Refusal>
+    requires { words.old ≡ zeroes 9024 }
+    ensures { OpensFrom state.now mask result words.new }
 {
-    if is_foreign(head, edges, pending, processes, batch) {
-        let start = hand_back_check::start(mask, MAX_PROCESSES);
-        return hand_back_check::refuse(start, Answer::ForeignState);
-    }
-    make_tables(head, edges, processes, batch, mask, words)
+    foreign::check(state)?;
+    make_tables(
+        state.head,
+        &state.edges,
+        &state.processes,
+        &state.batch,
+        mask,
+        words,
+    )
 }
 
 pub fn open(state: Runtime, mask: u64) -> Opened
     ensures { Opens state mask result }
 {
-    let head = state.head;
     let mut words = [0u64; 9024];
-    let check = begin(
-        head,
-        &state.edges,
-        &state.pending,
-        &state.processes,
-        &state.batch,
-        mask,
-        &mut words,
-    );
-    Opened {
-        words: words,
-        scan: Scan {
-            head: head,
-            check: check,
-        },
-    }
+    let check = begin(&state, mask, &mut words);
+    Opened { words, check }
 }
 
 // One emission of the first pass.
-fn check_in(words: &[u64], a: Scan, e: Emission) -> Scan
-    requires { (length words.now ≡ 9024) × Checkable words.now a }
-    ensures { ChecksNext words.now a e result }
+pub fn check_next(
+    words: &[u64; 9024],
+    head: Header,
+    a: ReplyCheck,
+    e: Emission,
+) -> Result<ReplyCheck, Refusal>
+    requires { Checkable words.now head }
+    ensures { ChecksNext words.now head a e result }
 {
     let lookaheads = &words[0..8192];
     let places = &words[8192..8256];
     let processes = &words[8256..8512];
     let batch = &words[8512..9024];
-    let head = a.head;
-    let so_far = a.check;
     let lookahead = hand_back_edges::lookahead_in(lookaheads, e);
-    let check = hand_back_check::check(head, lookahead, places, processes, batch, so_far, e);
-    Scan {
-        head: head,
-        check: check,
-    }
+    hand_back_check::check(head, lookahead, places, processes, batch, a, e)
 }
 
-pub fn check_next(words: &[u64; 9024], a: Scan, e: Emission) -> Scan
-    requires { Checkable words.now a }
-    ensures { ChecksNext words.now a e result }
+// What all checks say of a reply of so many emissions: 27 to 33, 19 and 18; and where the first of them
+// goes, if the round is queued.
+pub fn admit(
+    head: Header,
+    check: Result<ReplyCheck, Refusal>,
+    emitted: usize,
+) -> Result<Tail, Refusal>
+    ensures { AdmissionOf check head emitted result }
 {
-    check_in(words, a, e)
-}
-
-// What all checks say of a reply of so many emissions: 27 to 33, 19 and 18.
-pub fn admit(scan: Scan, emitted: usize) -> Admission
-    ensures { AdmissionOf scan.check scan.head emitted result }
-{
-    let check = scan.check;
-    let head = scan.head;
-    let tail = Tail {
+    hand_back_commit::final_check(check?, head.next, head.pending, emitted)?;
+    Ok(Tail {
         count: head.pending,
         next: head.next,
-    };
-    let so_far = check.outcome;
-    if !check.going {
-        return Admission {
-            admitted: false,
-            outcome: so_far,
-            tail: tail,
-        };
-    }
-    let verdict = hand_back_commit::final_check(check, head.next, head.pending, emitted);
-    Admission {
-        admitted: verdict.passed,
-        outcome: verdict,
-        tail: tail,
-    }
+    })
 }
 
-// One emission of the second pass; nothing is queued of a round that is not admitted.
-fn enqueue_in(words: &mut [u64], a: Admission, e: Emission) -> Admission
-    requires { Enqueueable words.old a }
-    ensures { EnqueuesNext words.old a e words.new result }
+// One emission of the second pass, for a round that is admitted.
+pub fn enqueue_next(words: &mut [u64; 4096], tail: Tail, e: Emission) -> Tail
+    requires { Enqueueable tail 1 words.old }
+    ensures { Enqueues tail (emission_of e) words.old result words.new }
 {
-    if !a.admitted {
-        return a;
-    }
-    let tail = a.tail;
-    let verdict = a.outcome;
-    let next = hand_back_enqueue::enqueue(words, tail, e);
-    Admission {
-        admitted: true,
-        outcome: verdict,
-        tail: next,
-    }
-}
-
-pub fn enqueue_next(words: &mut [u64; 4096], a: Admission, e: Emission) -> Admission
-    requires { Enqueueable words.old a }
-    ensures { EnqueuesNext words.old a e words.new result }
-{
-    enqueue_in(words, a, e)
+    hand_back_enqueue::enqueue(words, tail, e)
 }
 
 // The refusals that leave the state as given.
-fn as_given(state: Runtime, counters: Counters, check: ReplyCheck) -> CallResult
-    ensures { result ≡ given_back state counters check }
+fn as_given(state: Runtime, counters: Counters, refusal: Refusal) -> CallResult
+    ensures { result ≡ given_back state counters refusal }
 {
-    let verdict = check.outcome;
-    let answer = verdict.answer;
     CallResult {
-        answer: answer,
-        state: state,
-        counters: counters,
+        answer: Err(refusal),
+        state,
+        counters,
     }
 }
 
 // The round, whose emissions are queued, is ended.
-fn commit(state: Runtime, counters: Counters, check: ReplyCheck, emitted: usize) -> CallResult
+fn commit(mut state: Runtime, counters: Counters, check: ReplyCheck, emitted: usize) -> CallResult
     requires { CanEnd state.head state.pending state.processes state.batch emitted }
     ensures { CommitsTo state counters check emitted result }
 {
-    let head = state.head;
-    let mut processes = state.processes;
-    let mut batch = state.batch;
     let ended = hand_back_commit::commit_round(
-        head,
+        state.head,
         counters,
         &state.pending,
-        &mut processes,
-        &mut batch,
+        &mut state.processes,
+        &mut state.batch,
         check.remote,
         emitted,
     );
-    let answer = ended.answer;
-    let left = ended.head;
-    let counted = ended.counters;
-    let edges = state.edges;
-    let pending = state.pending;
+    state.head = ended.head;
     CallResult {
-        answer: answer,
-        state: Runtime {
-            edges: edges,
-            pending: pending,
-            processes: processes,
-            batch: batch,
-            head: left,
-        },
-        counters: counted,
+        answer: ended.answer,
+        state,
+        counters: ended.counters,
     }
 }
 
 // The round is lost.
-fn poison(mut state: Runtime, counters: Counters, answer: Answer) -> CallResult
+fn poison(mut state: Runtime, counters: Counters, refusal: Refusal) -> CallResult
     requires { 8 * state.head.batch ≤ length state.batch }
-    ensures { PoisonsTo state counters answer result }
+    ensures { PoisonsTo state counters refusal result }
 {
-    let head = state.head;
-    let mut batch = state.batch;
-    let lost = hand_back_end::poison(answer, head, counters, &mut batch);
-    let refusal = lost.answer;
-    let left = lost.head;
-    let counted = lost.counters;
-    state.batch = batch;
-    state.head = left;
+    let lost = hand_back_end::poison(refusal, state.head, counters, &mut state.batch);
+    state.head = lost.head;
     CallResult {
-        answer: refusal,
-        state: state,
-        counters: counted,
+        answer: lost.answer,
+        state,
+        counters: lost.counters,
     }
 }
 
@@ -279,21 +173,16 @@ fn poison(mut state: Runtime, counters: Counters, answer: Answer) -> CallResult
 pub fn close(
     state: Runtime,
     counters: Counters,
-    scan: Scan,
-    admission: Admission,
+    check: Result<ReplyCheck, Refusal>,
+    queued: Result<Tail, Refusal>,
     emitted: usize,
 ) -> CallResult
-    requires { Closable state scan admission emitted }
-    ensures { Closes state counters scan admission emitted result }
+    requires { Closable state check queued emitted }
+    ensures { Closes state counters check queued emitted result }
 {
-    let check = scan.check;
-    if !check.going {
-        return as_given(state, counters, check);
+    match (check, queued) {
+        (Err(refusal), _) => as_given(state, counters, refusal),
+        (Ok(a), Ok(_)) => commit(state, counters, a, emitted),
+        (Ok(_), Err(refusal)) => poison(state, counters, refusal),
     }
-    let verdict = admission.outcome;
-    if verdict.passed {
-        return commit(state, counters, check, emitted);
-    }
-    let answer = verdict.answer;
-    poison(state, counters, answer)
 }

@@ -1,31 +1,45 @@
--- Where the second pass is, and what the emissions so far made of the pending words.
-use mathlib.Core.Path.{subst}
-use Prim.Native.Nat.{ℕ, ◌+◌, ◌≤◌, ◌<◌, zero-le}
+-- What the emissions so far made of the pending words.
+use Rattle.std.specs.Prelude.{Result, Ok, Err}
+use Rattle.std.specs.Result.{IsErrAnd}
+use Rattle.std.proofs.lemmas.Result.{err_from_is_err_and}
+use mathlib.Core.Path.{◌≡◌, refl, sym, ap, subst, ◌∙◌}
+use mathlib.Core.List.{List, [], ◌∷◌, ◌++◌, map-append}
+use Prim.Native.Nat.{ℕ, ◌+◌, ◌≤◌, ◌<◌}
 use native.Mathlib.Omega.{arith}
-use mathlib.Core.List.{List}
-use lib.ListN.{length, get_or, take}
+use lib.ListN.{length, get_or, take, length-map}
 use lib.Seq.{length-take-le, take_all}
-use Rattle.host_hand_back.specs.Passes.{Enqueueable, EnqueuesNext, Admitted, Queued}
 use Rattle.reply_words.specs.declared.Emission.{Emission}
-use Rattle.host_hand_back.specs.declared.Admission.{Admission}
-use Rattle.host_hand_back.proofs.Passing.{queued_start, queued_asks, queued_more}
+use Rattle.reply_words.specs.Emissions.{emission_of}
+use Rattle.hand_back_enqueue.specs.declared.Tail.{Tail}
+use Rattle.hand_back_enqueue.specs.Enqueued.{Enqueueable, Enqueues, Enqueued}
+use Rattle.hand_back_enqueue.proofs.Enqueueing.{enqueued_none, enqueued_asks, enqueued_more}
+use Rattle.state.specs.declared.Refusal.{Refusal}
+use Rattle.host_hand_back.specs.Passes.{reply_of, Admitted, Queued}
 use Rattle.host_reply.proofs.Turns.{none, one_more}
 
--- i emissions are queued, and made E and b of D and a
-pub record Here (D : List ℕ) (a : Admission) (ys : List Emission) (i : ℕ) (E : List ℕ) (b : Admission) : Type 0 where
-  pub within : i ≤ length ys
-  pub made : Queued D a (take i ys) E b
+-- The first i of them.
+abbrev pub Here : List ℕ → Tail → List Emission → ℕ → List ℕ → Tail → Type 0
+Here w t ys i u v = Enqueued t (reply_of (take i ys)) w v u
 
-module _ (D : List ℕ) (a : Admission) (ys : List Emission) where
-  pub none_queued : Here D a ys 0 D a
-  none_queued = record { within = zero-le; made = queued_start D a }
+-- A round that is not admitted.
+pub queued_refused : (w : List ℕ) (p : Result Tail Refusal) (ys : List Emission) (x : Refusal) → p ≡ Err x → (r : Result Tail Refusal) → IsErrAnd r (λ y. y ≡ x) → Queued w p ys w r
+queued_refused w p ys x e r i = let q = err_from_is_err_and r i in rw e (q.1 ∙ ap Err q.2, refl)
 
-  module _ (i : ℕ) (E : List ℕ) (b : Admission) (t : Here D a ys i E b) where
-    pub ready_at : Admitted D a ys → i < length ys → Enqueueable E b
-    ready_at begins l = queued_asks D a (take i ys) E b t.made ys begins (rw (length-take-le i ys t.within) l)
+module _ (w : List ℕ) (p : Result Tail Refusal) (ys : List Emission) (t : Tail) (e : p ≡ Ok t) where
+  pub none_queued : Here w t ys 0 w t
+  none_queued = enqueued_none t w
 
-    pub queued_next : (F : List ℕ) (r : Admission) → i < length ys → EnqueuesNext E b (get_or ys i none) F r → Here D a ys (i + 1) F r
-    queued_next F r l s = record { within = omega arith; made = subst (λ (zs : List Emission). Queued D a zs F r) (one_more ys i l) (queued_more D a (take i ys) E b t.made (get_or ys i none) F r s) }
+  module _ (i : ℕ) (u : List ℕ) (v : Tail) (f : Here w t ys i u v) where
+    pub ready_at : Admitted w p ys → i < length ys → Enqueueable v 1 u
+    ready_at a l =
+        let b : Enqueueable t (length ys) w = rw e at a in
+        let n : length (reply_of (take i ys)) ≡ i = length-map (take i ys) emission_of ∙ length-take-le i ys (omega arith) in
+        enqueued_asks t w (reply_of (take i ys)) v u f (length ys) b (rw n l)
 
-    pub queued_whole : length ys ≤ i → Queued D a ys E b
-    queued_whole l = subst (λ (zs : List Emission). Queued D a zs E b) (take_all i ys l) t.made
+    pub queued_next : i < length ys → (z : Tail) (x : List ℕ) → Enqueues v (emission_of (get_or ys i none)) u z x → Here w t ys (i + 1) x z
+    queued_next l z x g =
+        let more : reply_of (take i ys) ++ (emission_of (get_or ys i none) ∷ []) ≡ reply_of (take (i + 1) ys) = sym (map-append emission_of (take i ys) (get_or ys i none ∷ [])) ∙ ap reply_of (one_more ys i l) in
+        rw more at (enqueued_more t w (reply_of (take i ys)) v u f (emission_of (get_or ys i none)) z x g)
+
+    pub queued_whole : length ys ≤ i → Queued w p ys u (Ok v)
+    queued_whole l = rw e (subst (λ (zs : List Emission). Enqueued t (reply_of zs) w v u) (take_all i ys l) f)

@@ -5,21 +5,26 @@
 
 ghost use Rattle.host_hand_back.specs.Passes.{Begun, Scanned, Admitted, Queued};
 
-use host_hand_back::{Admission, Scan};
+use hand_back_check::ReplyCheck;
+use hand_back_enqueue::Tail;
 use reply_words::Emission;
+use state::{Header, Refusal};
 
 // Each emission is checked in turn; nothing is written.
-pub fn check_records(reply: &[Emission], words: &[u64; 9024], scan: Scan) -> Scan
-    requires { Begun words.now scan }
-    ensures { Scanned words.now scan reply.now result }
+pub fn check_records(
+    reply: &[Emission],
+    words: &[u64; 9024],
+    head: Header,
+    start: Result<ReplyCheck, Refusal>,
+) -> Result<ReplyCheck, Refusal>
+    requires { Begun words.now head start }
+    ensures { Scanned words.now head start reply.now result }
 {
-    let mut a = scan;
-    let mut i: usize = 0;
-    while i < reply.len() {
-        a = host_hand_back::check_next(words, a, reply[i]);
-        i += 1;
+    let mut a = start?;
+    for e in reply {
+        a = host_hand_back::check_next(words, head, a, *e)?;
     }
-    a
+    Ok(a)
 }
 
 // Each emission is queued in turn, straight into the pending words; where the round is not admitted,
@@ -27,16 +32,14 @@ pub fn check_records(reply: &[Emission], words: &[u64; 9024], scan: Scan) -> Sca
 pub fn enqueue_records(
     reply: &[Emission],
     words: &mut [u64; 4096],
-    admission: Admission,
-) -> Admission
+    admission: Result<Tail, Refusal>,
+) -> Result<Tail, Refusal>
     requires { Admitted words.old admission reply.now }
     ensures { Queued words.old admission reply.now words.new result }
 {
-    let mut a = admission;
-    let mut i: usize = 0;
-    while i < reply.len() {
-        a = host_hand_back::enqueue_next(words, a, reply[i]);
-        i += 1;
+    let mut tail = admission?;
+    for e in reply {
+        tail = host_hand_back::enqueue_next(words, tail, *e);
     }
-    a
+    Ok(tail)
 }

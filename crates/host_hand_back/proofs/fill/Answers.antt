@@ -4,4 +4,4 @@ use Rattle.host_hand_back.proofs.fill.Goals as goal
 
 pub returns : goal.returns
 returns c =
-    filled _ _ _ _ c.requires.0 c.requires.1 c.requires.2 c.requires.3 _ _ _ (search rules) c.copy_at.ensures c.copy_at-2.ensures c.copy_at-3.ensures
+    filled _ _ _ _ _ _ _ c.requires.0 c.requires.1 c.requires.2 c.requires.3 c.copy_from_slice.ensures.after c.copy_from_slice-2.ensures.after c.copy_from_slice-3.ensures.after (search rules) (search rules) (search rules)

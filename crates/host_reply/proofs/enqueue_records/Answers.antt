@@ -1,15 +1,18 @@
 use native.Mathlib.Omega.{arith}
-use Rattle.host_reply.proofs.Enqueueing.{none_queued, ready_at, queued_next, queued_whole}
+use Rattle.host_reply.proofs.Enqueueing.{queued_refused, none_queued, ready_at, queued_next, queued_whole}
 use Rattle.host_reply.proofs.enqueue_records.Goals as goal
 
-pub loop-i-init : goal.loop-i-init
-loop-i-init c = none_queued _ _ _
+pub returns-in_err-tail : goal.returns-in_err-tail
+returns-in_err-tail c = queued_refused _ _ _ _ c.in_err-tail.was _ c.from_residual.ensures.1
 
-pub enqueue_next-a-requires : goal.enqueue_next-a-requires
-enqueue_next-a-requires c = ready_at _ _ _ _ _ _ c.loop-i.invariant c.requires (omega arith)
+pub loop-e-init : goal.loop-e-init
+loop-e-init c = none_queued _ _ c.args.reply.now _ c.in_ok-tail.was
 
-pub loop-i-preserved : goal.loop-i-preserved
-loop-i-preserved c = queued_next _ _ _ _ _ _ c.loop-i.invariant _ _ (omega arith) c.enqueue_next-a.ensures
+pub enqueue_next-tail-requires : goal.enqueue_next-tail-requires
+enqueue_next-tail-requires c = ready_at _ _ _ _ c.in_ok-tail.was _ _ _ c.loop-e.invariant c.requires c.loop-e-test.true
+
+pub loop-e-preserved : goal.loop-e-preserved
+loop-e-preserved c = queued_next _ _ _ _ c.in_ok-tail.was _ _ _ c.loop-e.invariant c.loop-e-test.true _ _ c.enqueue_next-tail.ensures
 
 pub returns : goal.returns
-returns c = queued_whole _ _ _ _ _ _ c.loop-i.invariant (omega arith)
+returns c = queued_whole _ _ _ _ c.in_ok-tail.was _ _ _ c.loop-e.invariant (omega arith)
