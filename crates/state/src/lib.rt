@@ -11,7 +11,8 @@ use types::{LpId, MAX_COUNT, MAX_PENDING, SimDuration, SimTime};
 
 // The small fields of a runtime. `edges`, `pending` and `batch` are how many there are; `next` is the
 // next sequence number; `stored` says whether `horizon` and `budget` are set; `initial`, that initial
-// events are open; `running`, that a run is open.
+// events are open; `running`, that a run is open. `stored` is kept beside what it tells of, and is no
+// Option: 11 and the rules' view (`stored_of`) read the three apart, and a state given whole has them all.
 #[derive(Clone, Copy, Default)]
 pub struct Header {
     pub n: usize,
@@ -31,7 +32,9 @@ pub struct Header {
 }
 
 // A runtime by value: its edges, its pending events, a table with two ticks of each process, and the
-// batch in hand. The table has the local horizons and, from place 64 on, the least inbound bounds. The
+// batch in hand. The table has the local horizons and, from place 64 on, the least inbound bounds. Queues
+// are flat words, as document 01 has them. The cores are lent the arrays one by one and no `&mut Runtime`:
+// a signature then says which of them a call may write, where else each contract would have to. The
 // header comes last: a search for a fact enters only so many records, and has to come to the arrays.
 #[derive(Clone, Copy)]
 pub struct Runtime {
