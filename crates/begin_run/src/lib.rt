@@ -13,7 +13,8 @@ ghost use Rattle.begin_run.specs.Begins.{Begins, BeginRefusal};
 use state::{Answer, Header, HeaderResult, Refusal};
 use types::SimTime;
 
-// The last accepted horizon; 0 stands for none, since nothing is below it.
+// The last accepted horizon; 0 stands for none, since nothing is below it. Kept in place of an Option: the
+// rules' own definition (`previous`) has it so.
 fn last_horizon(head: Header) -> SimTime
     ensures { ticks_of result ≡ previous (stored_of head.stored (ticks_of head.horizon) head.budget) }
 {

@@ -131,7 +131,6 @@ module _ (m H : ℕ) (table w₀ : List ℕ) where
   lifted_at k e = raised_edge H table e
 
   pub record Lifting (i : ℕ) (w : List ℕ) (r : ℕ) : Type 0 where
-    pub within : i ≤ m
     pub room : r + i ≤ m
     pub pass : Pass edge_at lifted_at m w₀ i w
     pub counted : r ≡ count_raised (tab (edge_at w₀) i (m - i)) (tab (edge_at w) i (m - i))
@@ -139,7 +138,6 @@ module _ (m H : ℕ) (table w₀ : List ℕ) where
   pub lifting_start : Lifting m w₀ 0
   unfolding count_raised
   lifting_start = record {
-    within = omega arith;
     room = omega arith;
     pass = pass_start edge_at lifted_at m w₀;
     counted = rw (tab_none (edge_at w₀) m m (omega arith));
@@ -149,7 +147,7 @@ module _ (m H : ℕ) (table w₀ : List ℕ) where
   unfolding Sources
   source_at n i w r few h f s =
       let e : (edge_at w (i - 1)).source ≡ (edge_at w₀ (i - 1)).source = ap (λ (x : Edge). x.source) (f.pass.ahead (i - 1) (omega arith)) in
-      let k : (edge_at w₀ (i - 1)).source < n = s (i - 1) (omega (arith, f.within)) in
+      let k : (edge_at w₀ (i - 1)).source < n = s (i - 1) (omega (arith, f.room)) in
       rw (← edge_from w (i - 1), e) (omega arith)
 
   -- Edge i - 1 rises to what its source's input frontier makes of it.
@@ -159,10 +157,9 @@ module _ (m H : ℕ) (table w₀ : List ℕ) where
       let same : tab (edge_at u) i (m - i) ≡ tab (edge_at w) i (m - i) = tab_cong _ _ i (m - i) (λ k x y. l.others k (λ z. omega arith)) in
       let e : edge_at w (i - 1) ≡ edge_at w₀ (i - 1) = f.pass.ahead (i - 1) (omega arith) in
       record {
-        within = omega (arith, f.within);
         room = omega (arith, f.room, edge_most (i - 1) t w u q l);
         pass = pass_more edge_at lifted_at m i w₀ w u h f.pass (l.here ∙ ap (λ (x : ℕ). raised_to x (edge_at w (i - 1))) et) l.others;
-        counted = add_comm r q ∙ rw (f.counted, l.counted, e, ← same) (sym (count_step (edge_at w₀) (edge_at u) i m h f.within));
+        counted = add_comm r q ∙ rw (f.counted, l.counted, e, ← same) (sym (count_step (edge_at w₀) (edge_at u) i m h (omega (arith, f.room))));
       }
 
   -- The edges have risen all at once: so they have one by one.
@@ -226,4 +223,4 @@ module _ (m n H : ℕ) (table w₀ p₀ : List ℕ) where
   destination_of i t w u p r q last h f l d =
       let a : (edge_at u (i - 1)).destination ≡ (edge_at w (i - 1)).destination = ap (λ (x : Edge). x.destination) l.here in
       let b : (edge_at w (i - 1)).destination ≡ (edge_at w₀ (i - 1)).destination = ap (λ (x : Edge). x.destination) (f.lifting.pass.ahead (i - 1) (omega arith)) in
-      rw (← edge_to_holds u (i - 1), a, b) (d (i - 1) (omega (arith, f.lifting.within)))
+      rw (← edge_to_holds u (i - 1), a, b) (d (i - 1) (omega (arith, f.lifting.room)))

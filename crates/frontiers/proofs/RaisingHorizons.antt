@@ -55,7 +55,6 @@ module _ (n : ℕ) (f : List ℕ) (H : ℕ) (w₀ : List ℕ) where
 
   -- Those from i on are raised, and the record is as it was; b is found of them.
   pub record Rising (i : ℕ) (w : List ℕ) (b : Raised) : Type 0 where
-    pub within : i ≤ n
     pub pass : Pass tick_of risen n w₀ i w
     pub inbound : (p : ℕ) → inbound_at w p ≡ inbound_at w₀ p
     pub rose : b.rose ≡ any_raised (tab (tick_of w₀) i (n - i)) (tab (tick_of w) i (n - i))
@@ -65,7 +64,6 @@ module _ (n : ℕ) (f : List ℕ) (H : ℕ) (w₀ : List ℕ) where
   pub rising_start : (top : SimTime) → ticks_of top ≡ H → Rising n w₀ (record { tick = top; horizon = top; rose = false })
   unfolding any_raised least
   rising_start top e = record {
-    within = omega arith;
     pass = pass_start tick_of risen n w₀;
     inbound = λ p. refl;
     rose = rw (tab_none (tick_of w₀) n n (omega arith));
@@ -73,16 +71,15 @@ module _ (n : ℕ) (f : List ℕ) (H : ℕ) (w₀ : List ℕ) where
     horizon = e ∙ rw (tab_none (tick_of w₀) n n (omega arith));
   }
 
-  pub rising_more : (i : ℕ) (w u : List ℕ) (b r : Raised) → 0 < i → n ≤ 64 → Rising i w b → RaisedHorizon (i - 1) f H b w u r → Rising (i - 1) u r
-  rising_more i w u b r h few s l =
+  pub rising_more : (i : ℕ) (w u : List ℕ) (b r : Raised) → 0 < i → i ≤ n → n ≤ 64 → Rising i w b → RaisedHorizon (i - 1) f H b w u r → Rising (i - 1) u r
+  rising_more i w u b r h within few s l =
       let same : tab (tick_of u) i (n - i) ≡ tab (tick_of w) i (n - i) = tab_cong _ _ i (n - i) (λ k x y. l.others k (λ e. omega arith)) in
       record {
-        within = omega (arith, s.within);
         pass = pass_more tick_of risen n i w₀ w u h s.pass (l.here ∙ ap (λ (x : ℕ). max (tick_of w (i - 1)) (min (min x H) (tick_of f (i - 1)))) (s.inbound (i - 1))) l.others;
-        inbound = λ p. l.others (64 + p) (λ e. omega (arith, s.within)) ∙ s.inbound p;
-        rose = l.rose ∙ rw (s.rose, s.pass.ahead (i - 1) (omega arith), ← same) (sym (any_step (tick_of w₀) (tick_of u) i n h s.within));
-        tick = l.tick ∙ rw s.tick (sym (least_step (tick_of f) H i n h s.within));
-        horizon = l.horizon ∙ rw (s.horizon, ← same) (sym (least_step (tick_of u) H i n h s.within));
+        inbound = λ p. l.others (64 + p) (λ e. omega arith) ∙ s.inbound p;
+        rose = l.rose ∙ rw (s.rose, s.pass.ahead (i - 1) (omega arith), ← same) (sym (any_step (tick_of w₀) (tick_of u) i n h within));
+        tick = l.tick ∙ rw s.tick (sym (least_step (tick_of f) H i n h within));
+        horizon = l.horizon ∙ rw (s.horizon, ← same) (sym (least_step (tick_of u) H i n h within));
       }
 
   pub rising_end : (i : ℕ) (w : List ℕ) (b : Raised) → i ≤ 0 → Rising i w b → RaisedHorizons n f H w₀ w b

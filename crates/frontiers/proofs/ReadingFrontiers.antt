@@ -18,18 +18,16 @@ module _ (n H : ℕ) (w f₀ : List ℕ) where
 
   -- The processes from i on have their input frontiers.
   pub record Reading (i : ℕ) (f : List ℕ) : Type 0 where
-    pub within : i ≤ n
     pub pass : Pass tick_of frontier_at n f₀ i f
 
   pub reading_start : Reading n f₀
-  reading_start = record { within = omega arith; pass = pass_start tick_of frontier_at n f₀ }
+  reading_start = record { pass = pass_start tick_of frontier_at n f₀ }
 
-  pub reading_more : (i : ℕ) (f u : List ℕ) (a b t : SimTime) → 0 < i → n ≤ 64 → length f ≡ 128 → Reading i f → ticks_of a ≡ frontier_in w H (i - 1) → ticks_of b ≡ tick_of f (i - 1)
+  pub reading_more : (i : ℕ) (f u : List ℕ) (a b t : SimTime) → 0 < i → i ≤ n → n ≤ 64 → length f ≡ 128 → Reading i f → ticks_of a ≡ frontier_in w H (i - 1) → ticks_of b ≡ tick_of f (i - 1)
       → ticks_of t ≡ min (ticks_of a) (ticks_of b) → u ≡ put_tick f (2 * (i - 1)) t → Reading (i - 1) u
-  reading_more i f u a b t h few l g ea eb et eu = record {
-    within = omega (arith, g.within);
+  reading_more i f u a b t h within few l g ea eb et eu = record {
     pass = pass_more tick_of frontier_at n i f₀ f u h g.pass
-        (rw eu (table_same f (i - 1) t (omega (arith, g.within))) ∙ et ∙ rw (ea, eb))
+        (rw eu (table_same f (i - 1) t (omega arith)) ∙ et ∙ rw (ea, eb))
         (λ k ne. rw eu (table_other f (i - 1) k t ne));
   }
 

@@ -35,18 +35,16 @@ push false e m d x h = h
 module _ (pending : List ℕ) (m : ℕ) (w₀ : List ℕ) where
   -- The events from i on are passed.
   pub record Noting (i : ℕ) (w : List ℕ) : Type 0 where
-    pub within : i ≤ m
     pub ticks : (p : ℕ) → p < 64 → tick_of w p ≡ first_tick (tab (event_at pending) i (m - i)) p (tick_of w₀ p)
 
   pub noting_start : Noting m w₀
   unfolding first_tick first_of tick_or
-  noting_start = record { within = omega arith; ticks = λ p h. rw (tab_none (event_at pending) m m (omega arith)) }
+  noting_start = record { ticks = λ p h. rw (tab_none (event_at pending) m m (omega arith)) }
 
-  pub noting_more : (i : ℕ) (w u : List ℕ) → 0 < i → Noting i w → FirstTickSet (event_at pending (i - 1)) w u → Noting (i - 1) u
+  pub noting_more : (i : ℕ) (w u : List ℕ) → 0 < i → i ≤ m → Noting i w → FirstTickSet (event_at pending (i - 1)) w u → Noting (i - 1) u
   unfolding first_tick first_of Changed
-  noting_more i w u h s c = record {
-    within = omega (arith, s.within);
-    ticks = λ p k. c p k ∙ rw (tab_step (event_at pending) i m h s.within) (push (eqb (event_at pending (i - 1)).destination p) (event_at pending (i - 1)) _ (tick_of w₀ p) _ (s.ticks p k));
+  noting_more i w u h l s c = record {
+    ticks = λ p k. c p k ∙ rw (tab_step (event_at pending) i m h l) (push (eqb (event_at pending (i - 1)).destination p) (event_at pending (i - 1)) _ (tick_of w₀ p) _ (s.ticks p k));
   }
 
   pub noting_end : (n : ℕ) (v : List ℕ) (t : SimTime) (i : ℕ) (w : List ℕ) → n ≤ 64 → i ≤ 0 → w₀ ≡ filled n t v → Noting i w → FirstTicks n (events_of m pending) (ticks_of t) w

@@ -3,10 +3,14 @@
 //
 // A table of first ticks or input frontiers has room for a tick of each of 64 processes, two words each,
 // and holds those of the n that there are. These are leaves: each asks that the words it touches are there.
+//
+// Kept as slices, with their lengths in clauses: hosts lend the table of the processes so, and an array for
+// either table would ask more of callers. Kept apart: `processes` and `top`. Half of the passes write the
+// table, so a struct of both would be made anew for each frontier that they read.
 
 #![tactic(auto)]
 
-ghost use Rattle.std.specs.Prelude.{◌≡◌, ◌+◌, ◌*◌, ◌<◌, ◌≤◌, length, get_or, ◌||◌};
+ghost use Rattle.std.specs.Prelude.{◌≡◌, ◌+◌, ◌*◌, ◌<◌, ◌≤◌, length, get_or};
 ghost use Rattle.types.specs.Value.{ticks_of, duration_of};
 ghost use Rattle.records.specs.Records.{event_at, events_of};
 ghost use Rattle.frontiers.specs.Tables.{FirstTicks, FirstTickSet, capped};
@@ -124,7 +128,8 @@ pub fn raise_bounds(
     input_frontiers(processes, first, n, top);
     inbound::reset(processes, n);
     let mut raised: usize = 0;
-    // Nothing is found yet: 64 is no process.
+    // Nothing is found yet: 64 is no process. Kept in place of an Option, by which it took almost half as
+    // long again over 512 edges.
     let mut last = SourceBound {
         source: 64,
         lookahead: SimDuration::ZERO,

@@ -2,9 +2,8 @@
 
 #![tactic(auto)]
 
-ghost use Rattle.std.specs.Prelude.{◌≡◌, ◌+◌, ◌*◌, ◌≤◌, leb, ltb, length};
+ghost use Rattle.std.specs.Prelude.{◌≡◌, ◌*◌, ◌≤◌, length};
 ghost use Rattle.types.specs.Value.{lp_id_of};
-ghost use Rattle.rules.specs.State.{max_count, max_pending};
 ghost use Rattle.rules.specs.Pending.{route};
 ghost use Rattle.records.specs.Records.{edges_of};
 ghost use Rattle.schedule_initial.specs.AddsInitial.{HasRoom, QueueRefusal, InitialRefusal, CanEnqueue, Enqueues, AddsInitial, record_of};

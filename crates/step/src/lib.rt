@@ -1,8 +1,11 @@
 // The core of a step: the batch; or, where nothing is eligible, 24 or an advance.
+//
+// Kept apart: the header and the counters, and the four arrays. Hosts lend each by itself, add initial and
+// begin take the header alone, and a step hands some arrays on to be read and others to be written.
 
 #![tactic(auto)]
 
-ghost use Rattle.std.specs.Prelude.{◌≡◌, ◌*◌, ◌≤◌, ◌-◌, length};
+ghost use Rattle.std.specs.Prelude.{◌≡◌, ◌*◌, ◌≤◌, length};
 ghost use Rattle.rules.specs.Step.{count_advance};
 ghost use Rattle.state.specs.View.{counters_of};
 ghost use Rattle.step_advance.specs.Advances.{CanAdvance};

@@ -1,4 +1,5 @@
-// What an advance and a refresh do to local horizons, edge bounds and GVT.
+// What an advance and a refresh do to local horizons, edge bounds and GVT. Kept apart, as in frontiers: the
+// table of the processes, the first ticks and H; refresh and advance write what budget_spent reads.
 
 #![tactic(auto)]
 

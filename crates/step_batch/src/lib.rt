@@ -24,7 +24,8 @@ pub struct BatchScan {
 }
 
 // The first eligible event of each process goes to the batch, at most `room`, and the gaps close.
-// `top` is H; with it, a frontier is read from the record in `processes`.
+// `top` is H; with it, a frontier is read from the record in `processes`. Kept as two parameters, as in
+// frontiers: what writes the table has both apart.
 pub fn take_batch(
     pending: &mut [u64],
     count: usize,
