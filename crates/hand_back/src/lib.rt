@@ -146,6 +146,8 @@ fn commit(
 }
 
 // The reply has eight words to an emission; words that make no whole one are passed over.
+// Kept with each array by itself, here and in what ends a round: three of them change, and the clauses
+// name the words of each before and after. A struct of them would be taken apart again in every call.
 pub fn hand_back<'a>(
     head: Header,
     counters: Counters,

@@ -101,6 +101,8 @@ fn checked(a: ReplyCheck, p: u64, remote: u64, verdict: Result<(), Refusal>) -> 
 
 // 26 of the emission e, then 28 to 33 unless something is refused already or a process before e's
 // failed; `lookahead` is that of the edge that e goes along.
+// Kept with each array by itself, not as Lent: it reads no edges, and host_hand_back, which calls it for
+// each record, has these arrays as parts of one.
 pub fn check<'a>(
     head: Header,
     lookahead: SimDuration,
@@ -130,7 +132,8 @@ pub fn check<'a>(
     Ok(checked(a, emitter, remote, verdict))
 }
 
-// The emissions of a reply in words, each in turn.
+// The emissions of a reply in words, each in turn. Kept with their count beside the words: the clause is
+// of the first `count`, whatever `count` is.
 pub fn check_words<'a>(
     lent: Lent<'a>,
     table: &'a [u16],

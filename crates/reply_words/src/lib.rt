@@ -66,6 +66,8 @@ pub fn find_places(batch: &[u64], count: usize, places: &mut [u64])
 }
 
 // "a failed process isn't in the batch". Where no process from p on failed, the pass ends.
+// Kept as a clause, here and in three more functions: that `places` has 64 words. No array type can say
+// it, since host_hand_back has its tables as parts of one array of words.
 pub fn failed_not_in_batch(mask: u64, places: &[u64]) -> bool
     requires { length places.now ≡ 64 }
     ensures { FailedNotInBatch mask places.now result }
