@@ -34,7 +34,7 @@ use Rattle.state.specs.ValidArrays.{ValidArrays}
 use Rattle.state.proofs.Facts.{few_processes, few_edges, few_batch, in_order, newest, below_top, batch_runs}
 use Rattle.hand_back_end.specs.EndsRound.{Poisons}
 use Rattle.hand_back_commit.specs.HandsBack.{HandsBack}
-use Rattle.hand_back_commit.specs.Commits.{InHand, ReplyChecked, Finishes, Fits, Passes, LosesRound, CanEnd, Ends}
+use Rattle.hand_back_commit.specs.Commits.{InHand, ReplyChecked, Finishes, Fits, Passes, LosesRound, FinalCheck, CanEnd, Ends}
 use Rattle.hand_back_commit.proofs.Back.{back_poisoned, back_empty, back_malformed}
 use Rattle.hand_back.specs.ReplyChecks.{replied_of, as_given_to, Passed, EarlyRows, Ready, Started, Begins, CanReview, LetsPass, ChecksReply, CanCommit, Commits}
 
@@ -173,25 +173,35 @@ module _ (w : List ℕ) where
   count_is = length_tab (emission_at w) 0 (length w / 8)
 
   module _ (h : Header) (c : Counters) (Q Z B : List ℕ) (a : ReplyCheck) (i : CanCommit h Q Z B) where
-    module _ (f : Passes a × Fits h.next h.pending k) where
-      pub enqueueable : Enqueueable (record { count = h.pending; next = h.next }) k Q
-      enqueueable = record {
-        places = omega (arith, f.1.room, i.pending_words);
-        numbers = omega (arith, f.1.in_time);
-        ordered = i.ordered;
-        newest = i.newest;
-      }
+    module _ (v : Result (Unit {0}) Refusal) (f : FinalCheck a h.next h.pending k v) where
+      sound : v ≡ Ok tt → Passes a × Fits h.next h.pending k
+      sound e = rw e at f
 
-      pub endable : (Q' : List ℕ) → length Q' ≡ 4096 → CanEnd h Q' Z B k
-      endable Q' n = record { few = i.few; pending_words = omega (arith, f.1.room); process_words = i.process_words; batch_words = i.batch_words; horizon = i.horizon; fits = f.1 }
+      loses : (x : Refusal) → v ≡ Err x → LosesRound a h.next h.pending k x
+      loses x e = rw e at f
 
-      pub committed : (t : Tail) (Q' : List ℕ) → Enqueued (record { count = h.pending; next = h.next }) (replied_of w) Q t Q' → (Z' B' : List ℕ) (r : CoreResult) → Ends h c Q' Z B a.remote k r Z' B' → Commits h c Q Z B a (replied_of w) r Q' Z' B'
+      pub enqueueable : v ≡ Ok tt → Enqueueable (record { count = h.pending; next = h.next }) k Q
+      enqueueable e =
+          let fits = (sound e).1 in
+          record {
+            places = omega (arith, fits.room, i.pending_words);
+            numbers = omega (arith, fits.in_time);
+            ordered = i.ordered;
+            newest = i.newest;
+          }
+
+      pub endable : v ≡ Ok tt → (Q' : List ℕ) → length Q' ≡ 4096 → CanEnd h Q' Z B k
+      endable e Q' n =
+          let fits = (sound e).1 in
+          record { few = i.few; pending_words = omega (arith, fits.room); process_words = i.process_words; batch_words = i.batch_words; horizon = i.horizon; fits = fits }
+
+      pub committed : v ≡ Ok tt → (t : Tail) (Q' : List ℕ) → Enqueued (record { count = h.pending; next = h.next }) (replied_of w) Q t Q' → (Z' B' : List ℕ) (r : CoreResult) → Ends h c Q' Z B a.remote k r Z' B' → Commits h c Q Z B a (replied_of w) r Q' Z' B'
       unfolding Ends Commits
-      committed t Q' e Z' B' r n E mask g d = n E Q a g f.0 refl mask (replied_of w) (subst (λ (y : ℕ). ReplyChecked h E Q Z B a mask y (replied_of w)) count_is d) (rw count_is at e.events)
+      committed s t Q' e Z' B' r n E mask g d = n E Q a g (sound s).0 refl mask (replied_of w) (subst (λ (y : ℕ). ReplyChecked h E Q Z B a mask y (replied_of w)) count_is d) (rw count_is at e.events)
 
-    pub lost : (x : Refusal) → LosesRound a h.next h.pending k x → (r : CoreResult) (B' : List ℕ) → Poisons x h c r → Commits h c Q Z B a (replied_of w) r Q Z B'
-    unfolding Finishes Commits
-    lost x f r B' d E mask g t = f h c E Q Z B r B' refl refl g d mask (replied_of w) (subst (λ (y : ℕ). ReplyChecked h E Q Z B a mask y (replied_of w)) count_is t)
+      pub lost : (x : Refusal) → v ≡ Err x → (r : CoreResult) (B' : List ℕ) → Poisons x h c r → Commits h c Q Z B a (replied_of w) r Q Z B'
+      unfolding Finishes Commits
+      lost x e r B' d E mask g t = loses x e h c E Q Z B r B' refl refl g d mask (replied_of w) (subst (λ (y : ℕ). ReplyChecked h E Q Z B a mask y (replied_of w)) count_is t)
 
 -- The call.
 module _ (h : Header) (c : Counters) (E Q Z B : List ℕ) (mask : ℕ) (xs : List Emission) (l : ValidArrays h E Q Z B) where
