@@ -108,13 +108,16 @@ module _ (s : List ℕ) (k : ℕ) (h : Header) (c : Counters) (E Q Z B t y l : L
     held : in_hand before ≡ events_of h.batch B
     held = run_hand plan R.zeros i.reached.accepted k ∙ hand
 
-    pub turned_back : (m : ℕ) → m ≡ number_of r.answer → (x : ℕ) → PlaceAfter m at a x → Turns s k (record { head = r.head; counters = r.counters; number = m; at = x; calls = k + 1 }) E Q' Z' B' t' y' l'
-    turned_back m e x place = record {
+    abbrev m : ℕ
+    m = number_of r.answer
+
+    pub turned_back : (x : ℕ) → PlaceAfter (number_of r.answer) at a x → Turns s k (record { head = r.head; counters = r.counters; answer = r.answer; at = x; calls = k + 1 }) E Q' Z' B' t' y' l'
+    turned_back x place = record {
       later = omega arith;
       came = record {
         reached = came;
         listed = listed;
-        number = number_next plan k h c E Q Z B i.reached call i.next_is r E Q' Z' B' gives m e;
+        number = number_next plan k h c E Q Z B i.reached call i.next_is r E Q' Z' B' gives m refl;
         goes = λ u v. record { reached = came; next_is = ap (next plan) entries_are ∙ (follows.goes (sym is ∙ u)).0; replying = replying u; listed = listed };
         stops = λ u. ap (next plan) entries_are ∙ follows.stops (rw is at u);
         closes = λ u. by_bool (eqb m 0)
@@ -124,7 +127,7 @@ module _ (s : List ℕ) (k : ℕ) (h : Header) (c : Counters) (E Q Z B t y l : L
     }
       where
         is : m ≡ number given_back.answer
-        is = e ∙ numbered (events_of r.head.batch B') r.answer given_back.answer (ap (λ (o : Out). o.answer) gives)
+        is = numbered (events_of r.head.batch B') r.answer given_back.answer (ap (λ (o : Out). o.answer) gives)
 
         commits-is : commits last ≡ eqb m 0 || eqb m 24
         commits-is = follows.commits ∙ ap (λ (j : ℕ). eqb j 0 || eqb j 24) (sym is)

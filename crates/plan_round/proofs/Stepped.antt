@@ -98,17 +98,18 @@ module _ (s : List ℕ) (k : ℕ) (h : Header) (c : Counters) (E Q Z B t y l : L
         listed = still_listed;
       }
 
-  pub turned_step : r.head.batch ≤ 0 → (m : ℕ) → m ≡ number_of r.answer → Turns s k (record { head = r.head; counters = r.counters; number = m; at = at; calls = k + 1 }) E' Q' Z' B' t y l
-  turned_step none_left m e =
+  pub turned_step : r.head.batch ≤ 0 → Turns s k (record { head = r.head; counters = r.counters; answer = r.answer; at = at; calls = k + 1 }) E' Q' Z' B' t y l
+  turned_step none_left =
+      let m : ℕ = number_of r.answer in
       let empty : non_empty given_step.after.batch ≡ false = ap non_empty (batch_is ∙ no_events _ 0 r.head.batch none_left) ∙ empty_none in
-      let is : m ≡ number given_step.answer = e ∙ numbered (events_of r.head.batch B') r.answer given_step.answer (ap (λ (o : Out). o.answer) gives) in
+      let is : m ≡ number given_step.answer = numbered (events_of r.head.batch B') r.answer given_step.answer (ap (λ (o : Out). o.answer) gives) in
       let open_is : given_step.after.running ≡ r.head.running = ap (λ (o : Out). o.after.running) (sym gives) in
       record {
         later = omega arith;
         came = record {
           reached = stepped;
           listed = still_listed;
-          number = number_next p k h c E Q Z B i.reached Step i.next_is r E' Q' Z' B' gives m e;
+          number = number_next p k h c E Q Z B i.reached Step i.next_is r E' Q' Z' B' gives m refl;
           goes = λ n u. record { reached = stepped; next_is = ap (next p) entries_are ∙ follows.goes empty (sym is ∙ n) (open_is ∙ u); replying = still_replying; listed = still_listed };
           stops = λ n. ap (next p) entries_are ∙ follows.stops empty (rw is at n);
           closes = λ u. ap (next p) entries_are ∙ follows.closes empty (open_is ∙ u);

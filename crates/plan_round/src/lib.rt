@@ -5,33 +5,32 @@
 #![tactic(auto)]
 
 ghost use Rattle.std.specs.Prelude.{◌≤◌, ◌<◌, ◌+◌};
+ghost use Rattle.state.specs.Numbers.{number_of};
 ghost use Rattle.plan_round.specs.Reached.{Stepping, Holding};
 ghost use Rattle.plan_round.specs.Turns.{Turns, PlaceAfter};
 
-use state::{Counters, Header};
+use state::{Answer, Counters, Header, Refusal};
 
-// How far the run has come: what the calls left, the number of the last answer, the place behind the
-// lines written so far, and how many calls there were.
+// How far the run has come: what the calls left, the last answer, the place behind the lines written so
+// far, and how many calls there were.
 #[derive(Clone, Copy)]
 pub struct Turn {
     pub head: Header,
     pub counters: Counters,
-    pub number: u64,
+    pub answer: Result<Answer, Refusal>,
     pub at: usize,
     pub calls: usize,
 }
 
 // "none for a batch refused by other than 24"
-fn place_after(number: u64, at: usize, listed: usize) -> usize
-    ensures { PlaceAfter number at listed result }
+fn place_after(answer: Result<Answer, Refusal>, at: usize, listed: usize) -> usize
+    ensures { PlaceAfter (number_of answer) at listed result }
 {
-    if number == 0 {
-        return listed;
+    match answer {
+        Ok(_) => listed,
+        Err(Refusal::EventBudgetExceeded(_)) => listed,
+        Err(_) => at,
     }
-    if number == 24 {
-        return listed;
-    }
-    at
 }
 
 // The batch in hand is listed and its reply handed back.
@@ -64,15 +63,11 @@ fn reply_to_batch<'a>(
         0,
         &reply[..8 * emitted],
     );
-    let answer = back.answer;
-    let number = answer_values::number_of(answer);
-    let h = back.head;
-    let c = back.counters;
     Turn {
-        head: h,
-        counters: c,
-        number: number,
-        at: place_after(number, at, listed),
+        head: back.head,
+        counters: back.counters,
+        answer: back.answer,
+        at: place_after(back.answer, at, listed),
         calls: calls + 1,
     }
 }
@@ -114,12 +109,11 @@ pub fn take_turn<'a>(
             calls + 1,
         );
     }
-    let answer = stepped.answer;
     Turn {
         head: h,
         counters: c,
-        number: answer_values::number_of(answer),
-        at: at,
+        answer: stepped.answer,
+        at,
         calls: calls + 1,
     }
 }

@@ -24,6 +24,8 @@ use Rattle.records.specs.Records.{events_of}
 use Rattle.state.specs.declared.Header.{Header}
 use Rattle.state.specs.declared.CoreResult.{CoreResult}
 use Rattle.state.specs.declared.HeaderResult.{HeaderResult}
+use Rattle.state.specs.declared.Answer.TheVariants.{Accepted as Accepted'}
+use Rattle.std.proofs.Common.{Ok}
 use Rattle.state.specs.View.{view, counters_of, zero_counters, message_of, answer_of}
 use Rattle.state.specs.Numbers.{number_of}
 use Rattle.state.proofs.Numbering.{numbered}
@@ -138,7 +140,10 @@ module _ (s : List ℕ) (k at : ℕ) (h : Header) (E Q Z : List ℕ) (i : Adding
   pub event_there : IsGot (message.get (drop at (stream s)))
   event_there = subst IsGot (sym (first_stands here)) tt
 
-  module _ (m : MessageAt) (read : MessageRead (stream s) at m) (r : HeaderResult) (Q' : List ℕ) (q : length Q' ≡ length Q) (g : AddsInitial h E Q m.message r Q') (n : ℕ) (e : n ≡ number_of r.answer) where
+  module _ (m : MessageAt) (read : MessageRead (stream s) at m) (r : HeaderResult) (Q' : List ℕ) (q : length Q' ≡ length Q) (g : AddsInitial h E Q m.message r Q') where
+    abbrev n : ℕ
+    n = number_of r.answer
+
     next_is : next p (run p k).entries ≡ some (AddInitial event)
     next_is = i.next_is ∙ ap some (opening_adds p (run p k).entries k _ i.added l)
 
@@ -166,12 +171,12 @@ module _ (s : List ℕ) (k at : ℕ) (h : Header) (E Q Z : List ℕ) (i : Adding
     follows_it = after_initial p (run p k).entries event _ (view h E Q Z (zeroes 512)) (counters_of zero_counters)
 
     number_now : n ≡ number added_now.answer
-    number_now = number_is p k h E Q Z i.before (AddInitial event) next_is no_hand_back r Q' q gives n e
+    number_now = number_is p k h E Q Z i.before (AddInitial event) next_is no_hand_back r Q' q gives n refl
 
     number_last : n ≡ last_number (run p (k + 1)).entries
-    number_last = last_number_holds p k h E Q Z i.before (AddInitial event) next_is no_hand_back r Q' q gives n e
+    number_last = last_number_holds p k h E Q Z i.before (AddInitial event) next_is no_hand_back r Q' q gives n refl
 
-    pub adding_more : n ≡ 0 → Adding s (k + 1) m.next r.head E Q' Z
+    pub adding_more : number_of r.answer ≡ 0 → Adding s (k + 1) m.next r.head E Q' Z
     adding_more z =
         let a : added_now.answer ≡ Accepted = follows_it.goes (sym number_now ∙ z) in
         let j : suc k ≡ k + 1 = omega arith in
@@ -186,7 +191,7 @@ module _ (s : List ℕ) (k at : ℕ) (h : Header) (E Q Z : List ℕ) (i : Adding
           countable = i.countable;
         }
 
-    pub adding_refused : 0 < n → Adds s (record { head = r.head; number = n; calls = k + 1 }) E Q' Z
+    pub adding_refused : 0 < number_of r.answer → Adds s (record { head = r.head; answer = r.answer; calls = k + 1 }) E Q' Z
     adding_refused z = record {
       before = before_it;
       number = number_last;
@@ -195,7 +200,7 @@ module _ (s : List ℕ) (k at : ℕ) (h : Header) (E Q Z : List ℕ) (i : Adding
       few = omega (arith, i.countable);
     }
 
-pub all_added : (s : List ℕ) (k at : ℕ) (h : Header) (E Q Z : List ℕ) → Adding s k at h E Q Z → length (plan_of s).initial ≤ k → Adds s (record { head = h; number = 0; calls = k }) E Q Z
+pub all_added : (s : List ℕ) (k at : ℕ) (h : Header) (E Q Z : List ℕ) → Adding s k at h E Q Z → length (plan_of s).initial ≤ k → Adds s (record { head = h; answer = Ok Accepted'; calls = k }) E Q Z
 all_added s k at h E Q Z i l = record {
   before = i.before;
   number = i.number;
@@ -205,7 +210,10 @@ all_added s k at h E Q Z i l = record {
 }
 
 -- Begin.
-module _ (s : List ℕ) (o : Opened) (E Q Z : List ℕ) (i : Adds s o E Q Z) (z : o.number ≡ 0) (t : SimTime) (b : ℕ) (with : Begun s t b) (r : HeaderResult) (g : Begins o.head t b r) (n : ℕ) (e : n ≡ number_of r.answer) where
+module _ (s : List ℕ) (o : Opened) (E Q Z : List ℕ) (i : Adds s o E Q Z) (z : number_of o.answer ≡ 0) (t : SimTime) (b : ℕ) (with : Begun s t b) (r : HeaderResult) (g : Begins o.head t b r) where
+  abbrev m : ℕ
+  m = number_of r.answer
+
   abbrev plan : Plan
   plan = plan_of s
 
@@ -232,17 +240,17 @@ module _ (s : List ℕ) (o : Opened) (E Q Z : List ℕ) (i : Adds s o E Q Z) (z 
   unfolding rule
   follows_begin = after_begin plan (run plan o.calls).entries plan.horizon plan.budget _ (view o.head E Q Z (zeroes 512)) (counters_of zero_counters)
 
-  begun_number : n ≡ number begun_now.answer
-  begun_number = number_is plan o.calls o.head E Q Z i.before begin_call (i.goes z) no_hand_back' r Q refl begin_gives n e
+  begun_number : m ≡ number begun_now.answer
+  begun_number = number_is plan o.calls o.head E Q Z i.before begin_call (i.goes z) no_hand_back' r Q refl begin_gives m refl
 
-  pub opened_run : Opens s (record { head = r.head; number = n; calls = o.calls + 1 }) E Q Z
+  pub opened_run : Opens s (record { head = r.head; answer = r.answer; calls = o.calls + 1 }) E Q Z
   opened_run = record {
     before = before_next plan o.calls o.head E Q Z i.before begin_call (i.goes z) no_hand_back' r Q refl begin_gives;
-    number = last_number_holds plan o.calls o.head E Q Z i.before begin_call (i.goes z) no_hand_back' r Q refl begin_gives n e;
+    number = last_number_holds plan o.calls o.head E Q Z i.before begin_call (i.goes z) no_hand_back' r Q refl begin_gives m refl;
     goes = λ x. let f = follows_begin.goes (sym begun_number ∙ x) in (ap (next plan) begun_entries ∙ f.0, ap (λ (y : Out). y.after.running) begin_gives ∙ f.1);
     stops = λ x. ap (next plan) begun_entries ∙ follows_begin.stops (rw begun_number at x);
   }
 
 -- A refused initial event: there is no begin.
-pub not_opened : (s : List ℕ) (o : Opened) (E Q Z : List ℕ) → Adds s o E Q Z → 0 < o.number → Opens s o E Q Z
+pub not_opened : (s : List ℕ) (o : Opened) (E Q Z : List ℕ) → Adds s o E Q Z → 0 < number_of o.answer → Opens s o E Q Z
 not_opened s o E Q Z i l = record { before = i.before; number = i.number; goes = λ z. absurd (omega arith); stops = i.stops }

@@ -19,13 +19,10 @@ use Rattle.plan_text.proofs.Finished.{finished}
 use Rattle.plan_round.specs.declared.Turn.{Turn}
 use Rattle.plan_round.specs.Reached.{plan_of, Stepping}
 use Rattle.plan_round.specs.Turns.{Came, Turns}
-use Rattle.plan_run.specs.Ends.{Ended, GoesOn}
-
-pub stopped : (t : Turn) → 0 < t.number → GoesOn t false
-stopped t l = record { yes_call = λ e. absurd (let z : ◌≡◌ {A = ℕ} 0 1 = cc in omega arith); refused = λ _ f. absurd (f l) }
-
-pub by_running : (t : Turn) → t.number ≤ 0 → GoesOn t t.head.running
-by_running t l = record { yes_call = λ e. (omega arith, e); refused = λ e _. e }
+use Rattle.state.specs.Numbers.{number_of}
+use Rattle.state.specs.declared.Header.{Header}
+use Rattle.state.specs.declared.Counters.{Counters}
+use Rattle.plan_run.specs.Ends.{Ended, GoesOn, EndsWith}
 
 module _ (s : List ℕ) (t : Turn) (E Q Z B w y l : List ℕ) (i : Came s t E Q Z B w y l) (g : Bool) (k : GoesOn t g) where
   -- A turn is next, and it brings the run nearer to its end.
@@ -41,10 +38,9 @@ module _ (s : List ℕ) (t : Turn) (E Q Z B w y l : List ℕ) (i : Came s t E Q 
     reached = i.reached;
     listed = i.listed;
     number = i.number;
-    over = by_bool (ltb 0 t.number) (λ x. i.stops (ltb-true 0 t.number x)) (λ x. i.closes (k.refused e (λ z. let f = ltb-false 0 t.number x in absurd (omega arith))));
+    over = by_bool (ltb 0 number_of t.answer) (λ x. i.stops (ltb-true 0 number_of t.answer x)) (λ x. i.closes (k.refused e (λ z. let f = ltb-false 0 number_of t.answer x in absurd (omega arith))));
   }
 
 -- The last line, and zeros behind it.
-pub ends_with : (t : Turn) (old new : List ℕ) (at : ℕ) (last : List ℕ) (r : Bool) → Appends old t.at (end_line t.number (ticks_of t.head.gvt) t.counters.rounds t.counters.null_messages) new at → Finishes new at last r
-    → (ls : List ℕ) → Listed old t.at ls → Holds (length old) (ls ++ end_line t.number (ticks_of t.head.gvt) t.counters.rounds t.counters.null_messages) last r
-ends_with t old new at last r a f ls i = rw (sym a.same) (finished new last _ at r (listed_more old new ls _ t.at at i a) f)
+pub ends_with : (start k : ℕ) (h : Header) (c : Counters) (old new : List ℕ) (at : ℕ) (last : List ℕ) (r : Bool) → Appends old start (end_line k (ticks_of h.gvt) c.rounds c.null_messages) new at → Finishes new at last r → EndsWith start k h c old last r
+ends_with start k h c old new at last r a f ls i = rw (sym a.same) (finished new last _ at r (listed_more old new ls _ start at i a) f)

@@ -21,6 +21,7 @@ use Rattle.rules.proofs.Built.{makes}
 use Rattle.state.specs.declared.Header.{Header}
 use Rattle.state.specs.declared.Counters.{Counters}
 use Rattle.state.specs.View.{zero_counters}
+use Rattle.state.specs.Numbers.{number_of}
 use Rattle.plan_file.specs.Plan.{Plan, Reply}
 use Rattle.plan_rules.specs.Setup.{setup_of}
 use Rattle.plan_rules.specs.Host.{left}
@@ -73,7 +74,7 @@ adding_start s at n h E Z i j = record {
 -- The turns start where the run was opened, with no line written.
 module _ (s : List ℕ) (o : Opened) (E Q Z : List ℕ) (i : Opens s o E Q Z) (t y l : List ℕ) (short : length s ≤ 16384) (j : Repliable s t) (room : length y ≡ 7208) where
   abbrev first : Turn
-  first = record { head = o.head; counters = zero_counters; number = o.number; at = 0; calls = o.calls }
+  first = record { head = o.head; counters = zero_counters; answer = o.answer; at = 0; calls = o.calls }
 
   nothing_listed : Listed l 0 (handled_lines (run (plan_of s) o.calls).entries)
   nothing_listed = subst (Listed l 0) (sym i.before.no_lines) (listed_none l)
@@ -95,16 +96,16 @@ module _ (s : List ℕ) (o : Opened) (E Q Z : List ℕ) (i : Opens s o E Q Z) (t
       listed = nothing_listed;
     };
     stops = i.stops;
-    closes = λ u. by_bool (eqb o.number 0)
-        (λ z. true_not_false (sym (i.goes (eqb-true o.number 0 z)).1 ∙ u))
-        (λ z. let f = eqb-false o.number 0 z in let p : 0 < o.number = omega arith in i.stops p);
+    closes = λ u. by_bool (eqb number_of o.answer 0)
+        (λ z. true_not_false (sym (i.goes (eqb-true number_of o.answer 0 z)).1 ∙ u))
+        (λ z. let f = eqb-false number_of o.answer 0 z in let p : 0 < number_of o.answer = omega arith in i.stops p);
   }
 
-  pub came_start : (c : Counters) → c ≡ zero_counters → Came s (record { head = o.head; counters = c; number = o.number; at = 0; calls = o.calls }) E Q Z (zeroes 512) t y l
-  came_start c e = subst (λ (x : Counters). Came s (record { head = o.head; counters = x; number = o.number; at = 0; calls = o.calls }) E Q Z (zeroes 512) t y l) (sym e) came_first
+  pub came_start : (c : Counters) → c ≡ zero_counters → Came s (record { head = o.head; counters = c; answer = o.answer; at = 0; calls = o.calls }) E Q Z (zeroes 512) t y l
+  came_start c e = subst (λ (x : Counters). Came s (record { head = o.head; counters = x; answer = o.answer; at = 0; calls = o.calls }) E Q Z (zeroes 512) t y l) (sym e) came_first
 
 -- What stands in the slice at the end is the listing of the whole run.
-module _ (s : List ℕ) (r : Turn) (E Q Z B l l' : List ℕ) (b : Bool) (i : Ended s r E Q Z B l) (e : EndsWith r l l' b) where
+module _ (s : List ℕ) (r : Turn) (E Q Z B l l' : List ℕ) (b : Bool) (i : Ended s r E Q Z B l) (k : ℕ) (is : k ≡ number_of r.answer) (e : EndsWith r.at k r.head r.counters l l' b) where
   abbrev p : Plan
   p = plan_of s
 
@@ -112,12 +113,12 @@ module _ (s : List ℕ) (r : Turn) (E Q Z B l l' : List ℕ) (b : Bool) (i : End
   whole = run_over p (ends p R.zeros i.reached.accepted) r.calls i.over
 
   abbrev here : List ℕ
-  here = handled_lines (run p r.calls).entries ++ end_line r.number (ticks_of r.head.gvt) r.counters.rounds r.counters.null_messages
+  here = handled_lines (run p r.calls).entries ++ end_line k (ticks_of r.head.gvt) r.counters.rounds r.counters.null_messages
 
   listing_is : here ≡ listing (ran p)
   unfolding listing
   listing_is =
-      (λ j. handled_lines (run p r.calls).entries ++ end_line (i.number j) (sym i.reached.state j).gvt (sym i.reached.counters j).rounds (sym i.reached.counters j).null_messages)
+      (λ j. handled_lines (run p r.calls).entries ++ end_line ((is ∙ i.number) j) (sym i.reached.state j).gvt (sym i.reached.counters j).rounds (sym i.reached.counters j).null_messages)
       ∙ ap listing whole
 
   pub runs_built : (old : List ℕ) → length l ≡ length old → RunsBuilt s old l' b

@@ -9,6 +9,7 @@ use Rattle.rules.specs.Calls.{Begin, Step}
 use Rattle.rules.specs.History.{initials}
 use Rattle.state.specs.declared.Header.{Header}
 use Rattle.state.specs.View.{zero_counters}
+use Rattle.state.specs.Numbers.{number_of}
 use Rattle.plan_file.specs.Plan.{Plan}
 use Rattle.plan_file.specs.Grammar.{message}
 use Rattle.plan_file.specs.Standing.{Standing}
@@ -38,17 +39,17 @@ pub record Adding (s : List ℕ) (k at : ℕ) (h : Header) (edges pending proces
 -- All of them are, and begin is next; or one was refused, and that is the end.
 pub record Adds (s : List ℕ) (r : Opened) (edges pending processes : List ℕ) : Type 0 where
   pub before : Before (plan_of s) r.calls r.head edges pending processes
-  pub number : r.number ≡ last_number (run (plan_of s) r.calls).entries
-  pub goes : r.number ≡ 0 → next (plan_of s) (run (plan_of s) r.calls).entries ≡ some (Begin (plan_of s).horizon (plan_of s).budget)
-  pub stops : 0 < r.number → next (plan_of s) (run (plan_of s) r.calls).entries ≡ none
+  pub number : number_of r.answer ≡ last_number (run (plan_of s) r.calls).entries
+  pub goes : number_of r.answer ≡ 0 → next (plan_of s) (run (plan_of s) r.calls).entries ≡ some (Begin (plan_of s).horizon (plan_of s).budget)
+  pub stops : 0 < number_of r.answer → next (plan_of s) (run (plan_of s) r.calls).entries ≡ none
   pub few : r.calls < 1024
 
 -- The run is open and a step is next; or there is none.
 pub record Opens (s : List ℕ) (r : Opened) (edges pending processes : List ℕ) : Type 0 where
   pub before : Before (plan_of s) r.calls r.head edges pending processes
-  pub number : r.number ≡ last_number (run (plan_of s) r.calls).entries
-  pub goes : r.number ≡ 0 → (next (plan_of s) (run (plan_of s) r.calls).entries ≡ some Step) × (r.head.running ≡ true)
-  pub stops : 0 < r.number → next (plan_of s) (run (plan_of s) r.calls).entries ≡ none
+  pub number : number_of r.answer ≡ last_number (run (plan_of s) r.calls).entries
+  pub goes : number_of r.answer ≡ 0 → (next (plan_of s) (run (plan_of s) r.calls).entries ≡ some Step) × (r.head.running ≡ true)
+  pub stops : 0 < number_of r.answer → next (plan_of s) (run (plan_of s) r.calls).entries ≡ none
 
 -- What begin is asked with.
 pub record Begun (s : List ℕ) (horizon : SimTime) (budget : ℕ) : Type 0 where

@@ -10,16 +10,17 @@ ghost use Rattle.plan_run.specs.Ends.{Ended, GoesOn, EndsWith};
 ghost use Rattle.plan_run.specs.RunsBuilt.{Built, InitialAt, Repliable, RunsBuilt};
 ghost use Rattle.plan_run.specs.Opens.{Adding, Adds, Opens, Begun};
 
+use plan_reader::MessageAt;
 use plan_round::Turn;
-use state::Header;
+use state::{Answer, Counters, Header, Refusal};
 use types::SimTime;
 
-// How far the opening of a run has come: what the calls left, the number of the last answer, and how
-// many calls there were.
+// How far the opening of a run has come: what the calls left, the last answer, which is build's where
+// there was none, and how many calls there were.
 #[derive(Clone, Copy)]
 pub struct Opened {
     pub head: Header,
-    pub number: u64,
+    pub answer: Result<Answer, Refusal>,
     pub calls: usize,
 }
 
@@ -37,28 +38,23 @@ fn add_initials<'a>(
     ensures { Adds file.now result edges.now pending.new processes.now }
 {
     let mut p = at;
-    let mut calls: usize = 0;
-    while calls < count {
-        let read = plan_reader::message_at(file, p);
-        let message = read.message;
+    for calls in 0..count {
+        let MessageAt { message, next } = plan_reader::message_at(file, p);
         let added = schedule_initial::add_initial(head, edges, pending, message);
-        let answer = added.answer;
-        let number = answer_values::number_of(answer);
         head = added.head;
-        calls += 1;
-        p = read.next;
-        if 0 < number {
+        p = next;
+        if added.answer.is_err() {
             return Opened {
-                head: head,
-                number: number,
-                calls: calls,
+                head,
+                answer: added.answer,
+                calls: calls + 1,
             };
         }
     }
     Opened {
-        head: head,
-        number: 0,
-        calls: calls,
+        head,
+        answer: Ok(Answer::Accepted),
+        calls: count,
     }
 }
 
@@ -75,17 +71,13 @@ fn begin<'a>(
     requires { Adds file.now added edges.now pending.now processes.now × Begun file.now horizon budget }
     ensures { Opens file.now result edges.now pending.now processes.now }
 {
-    if 0 < added.number {
+    if added.answer.is_err() {
         return added;
     }
-    let head = added.head;
-    let begun = begin_run::begin(head, horizon, budget);
-    let answer = begun.answer;
-    let number = answer_values::number_of(answer);
-    let h = begun.head;
+    let begun = begin_run::begin(added.head, horizon, budget);
     Opened {
-        head: h,
-        number: number,
+        head: begun.head,
+        answer: begun.answer,
         calls: added.calls + 1,
     }
 }
@@ -94,11 +86,7 @@ fn begin<'a>(
 fn goes_on(t: Turn) -> bool
     ensures { GoesOn t result }
 {
-    if 0 < t.number {
-        return false;
-    }
-    let head = t.head;
-    head.running
+    t.answer.is_ok() && t.head.running
 }
 
 // Turns until the host has no next call.
@@ -117,11 +105,10 @@ fn run_turns<'a>(
     ensures { Ended file.now result edges.new pending.new processes.new batch.new listing.new }
 {
     let mut t = start;
+    // Kept by hand: it counts nothing, and ends when the host has no next call.
     while goes_on(t) {
-        let head = t.head;
-        let counters = t.counters;
         t = plan_round::take_turn(
-            head, counters, edges, pending, processes, batch, file, table, reply, listing, t.at,
+            t.head, t.counters, edges, pending, processes, batch, file, table, reply, listing, t.at,
             t.calls,
         );
     }
@@ -129,16 +116,20 @@ fn run_turns<'a>(
 }
 
 // The last line, and zeros behind it; false where the listing does not fit.
-pub fn end_listing(t: Turn, listing: &mut [u8]) -> bool
-    ensures { EndsWith t listing.old listing.new result }
+pub fn end_listing(
+    listing: &mut [u8],
+    at: usize,
+    number: u64,
+    head: Header,
+    counters: Counters,
+) -> bool
+    ensures { EndsWith at number head counters listing.old listing.new result }
 {
-    let head = t.head;
     let gvt = head.gvt;
-    let counters = t.counters;
     let end = plan_text::put_end(
         listing,
-        t.at,
-        t.number,
+        at,
+        number,
         gvt,
         counters.rounds,
         counters.null_messages,
@@ -176,11 +167,10 @@ pub fn run_built<'a>(
         initial,
     );
     let begun = begin(added, horizon, budget, file, edges, &pending, processes);
-    let head = begun.head;
     let start = Turn {
-        head: head,
+        head: begun.head,
         counters: state::zero_counters(),
-        number: begun.number,
+        answer: begun.answer,
         at: 0,
         calls: begun.calls,
     };
@@ -195,5 +185,6 @@ pub fn run_built<'a>(
         &mut reply,
         listing,
     );
-    end_listing(end, listing)
+    let number = answer_values::number_of(end.answer);
+    end_listing(listing, end.at, number, end.head, end.counters)
 }

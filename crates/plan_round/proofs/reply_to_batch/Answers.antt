@@ -40,4 +40,4 @@ shape_of-listing c = c.put_batch-listed.ensures.same
 -- src/lib.rt:34:1
 pub returns : goal.returns
 returns c =
-    turned_back _ _ _ _ _ _ _ _ _ _ _ _ c.requires _ _ c.put_batch-listed.ensures _ _ _ c.fill_reply-emitted.ensures.fills _ _ _ _ (search (c.hand_back-back.auto, rules)) (search (c.hand_back-back.auto, rules)) (search (c.hand_back-back.auto, rules)) (search (c.fill_reply-emitted.auto, rules)) _ refl c.fill_reply-emitted.ensures.result_in_bounds c.hand_back-back.ensures _ c.number_of-number.ensures _ c.place_after.ensures
+    turned_back _ _ _ _ _ _ _ _ _ _ _ _ c.requires _ _ c.put_batch-listed.ensures _ _ _ c.fill_reply-emitted.ensures.fills _ _ _ _ (search (c.hand_back-back.auto, rules)) (search (c.hand_back-back.auto, rules)) (search (c.hand_back-back.auto, rules)) (search (c.fill_reply-emitted.auto, rules)) _ refl c.fill_reply-emitted.ensures.result_in_bounds c.hand_back-back.ensures _ c.place_after.ensures

@@ -25,4 +25,4 @@ overflow_add-result c =
 -- src/lib.rt:77:1
 pub returns : goal.returns
 returns c =
-    turned_step _ _ _ _ _ _ _ _ _ _ _ _ c.requires _ _ _ _ _ (search (c.step-stepped.auto, rules)) (search (c.step-stepped.auto, rules)) (search (c.step-stepped.auto, rules)) (search (c.step-stepped.auto, rules)) c.step-stepped.ensures (omega arith) _ c.number_of.ensures
+    turned_step _ _ _ _ _ _ _ _ _ _ _ _ c.requires _ _ _ _ _ (search (c.step-stepped.auto, rules)) (search (c.step-stepped.auto, rules)) (search (c.step-stepped.auto, rules)) (search (c.step-stepped.auto, rules)) c.step-stepped.ensures (omega arith)
