@@ -9,9 +9,8 @@ ghost use Rattle.dorrezubi.specs.Exports.{Exports};
 pub fn dorrezubi_run_plan(plan: &[u8], listing: &mut [u8]) -> u64
     ensures { Exports plan.now listing.old listing.new result }
 {
-    let parts = plan_file::check_file(plan);
-    if 0 < parts.number {
-        return parts.number;
+    match plan_file::check_file(plan) {
+        Ok(parts) => plan_rehearsal::rehearse(plan, parts, listing),
+        Err(refusal) => u64::from(refusal),
     }
-    plan_rehearsal::rehearse(plan, parts, listing)
 }

@@ -113,7 +113,7 @@ pub fn take_turn<'a>(
         head: h,
         counters: c,
         answer: stepped.answer,
-        at,
+        at: at,
         calls: calls + 1,
     }
 }

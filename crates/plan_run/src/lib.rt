@@ -166,13 +166,13 @@ pub fn run_built<'a>(
         initial_at,
         initial,
     );
-    let begun = begin(added, horizon, budget, file, edges, &pending, processes);
+    let opened = begin(added, horizon, budget, file, edges, &pending, processes);
     let start = Turn {
-        head: begun.head,
+        head: opened.head,
         counters: state::zero_counters(),
-        answer: begun.answer,
+        answer: opened.answer,
         at: 0,
-        calls: begun.calls,
+        calls: opened.calls,
     };
     let end = run_turns(
         start,

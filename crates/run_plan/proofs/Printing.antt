@@ -96,16 +96,3 @@ module _ (file old new : List ℕ) (r : ℕ) (room : length old ≡ 35194) (e : 
       let s : new ≡ printed file ++ replicate (length old - length (printed file)) 0 = ap (λ (x : Exported). x.slice) (e ∙ x) in
       let k = ends_there (printed file) (length old - length (printed file)) n (printed_ends file) (subst (λ (t : List ℕ). EndsAt t n) s i) in
       ap (take n) s ∙ take_at (printed file) _ n (sym k)
-
--- Before the loop, every byte behind the slice's end is zero.
-pub past_end : (text : List ℕ) (i : ℕ) → length text ≤ i → get_or text i 0 ≡ 0
-past_end text i h = get_or-eq_default text 0 h
-
-pub one_more_zero : (text : List ℕ) (end : ℕ) → 0 < end → ((i : ℕ) → end ≤ i → get_or text i 0 ≡ 0) → get_or text (end - 1) 0 ≡ 0 → (i : ℕ) → end - 1 ≤ i → get_or text i 0 ≡ 0
-one_more_zero text end p h z i l =
-    by_bool (leb end i)
-    (λ t. h i (leb-true end i t))
-    (λ t. let f = leb-false end i t in let y : end - 1 ≡ i = omega arith in ap (λ (j : ℕ). get_or text j 0) (sym y) ∙ z)
-
-pub not_last : (text : List ℕ) (end k : ℕ) → end ≡ suc k → (get_or text (end - 1) 0 ≡ 0 → ⊥) → get_or text k 0 ≡ 0 → ⊥
-not_last text end k e f z = f (ap (λ (j : ℕ). get_or text j 0) (let y : end - 1 ≡ k = omega arith in y) ∙ z)

@@ -15,14 +15,9 @@ const STDOUT_FILENO: i32 = 1;
 fn text_length(text: &[u8]) -> usize
     ensures { EndsAt text.now result }
 {
-    let mut end = text.len();
-    while 0 < end {
-        if text[end - 1] != 0 {
-            return end;
-        }
-        end -= 1;
-    }
-    end
+    text.iter()
+        .rposition(|byte| *byte != 0)
+        .map_or(0, |last| last + 1)
 }
 
 // The bytes that are printed: so many of the slice, which has room for every listing.

@@ -2,7 +2,5 @@ use Rattle.plan_run.proofs.end_listing.Goals as goal
 -- `plan_run::end_listing` meets its contract.
 use Rattle.plan_run.proofs.Running.{ends_with}
 
--- src/lib.rt:136:1
 pub returns : goal.returns
-returns c =
-    ends_with c.args.t _ _ _ _ _ c.put_end-end.ensures c.finish.ensures
+returns c = ends_with _ _ _ _ _ _ _ _ _ c.put_end-end.ensures c.finish.ensures

@@ -13,9 +13,9 @@ add_initials-added-requires c =
 pub run_turns-end-requires : goal.run_turns-end-requires
 run_turns-end-requires c =
     let pre = c.requires in
-    came_start _ _ _ _ _ c.begin-begun.ensures _ _ _ pre.2.short pre.3 refl _ c.zero_counters.ensures
+    came_start _ _ _ _ _ c.begin-opened.ensures _ _ _ pre.2.short pre.3 refl _ c.zero_counters.ensures
 
 -- src/lib.rt:156:1
 pub returns : goal.returns
 returns c =
-    runs_built _ _ _ _ _ _ _ _ _ c.run_turns-end.ensures c.end_listing.ensures c.args.listing.now c.run_turns-end.auto.listing
+    runs_built _ _ _ _ _ _ _ _ _ c.run_turns-end.ensures _ c.number_of-number.ensures c.end_listing.ensures c.args.listing.now c.run_turns-end.auto.listing
