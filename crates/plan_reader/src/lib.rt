@@ -90,6 +90,7 @@ pub fn payload_at(s: &[u8], at: usize, len: usize) -> Payload
 }
 
 // The message that stands at `at`.
+#[tactic(auto, using(crate::proofs::Messages::fields_room))]
 pub fn message_at(s: &[u8], at: usize) -> MessageAt
     requires { (length s.now ≤ 16384) × IsGot (message.get (drop at (stream s.now))) }
     ensures { MessageRead (stream s.now) at result }
