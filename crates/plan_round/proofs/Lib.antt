@@ -3,4 +3,4 @@ pub mod Onward
 pub mod Stepped
 pub mod Replied
 pub mod Turned
-pub mod Places
+pub mod Answered

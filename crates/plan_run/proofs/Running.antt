@@ -1,11 +1,10 @@
 -- Turn after turn until the host has no next call.
 use mathlib.Core.Path.{◌≡◌, sym}
 use mathlib.Core.Bool.{Bool, true, false}
-use mathlib.Core.List.{List, ◌++◌}
-use Prim.Native.Nat.{ℕ, ◌-◌, ◌≤◌, ◌<◌}
+use mathlib.Core.List.{List}
+use Prim.Native.Nat.{ℕ, ◌-◌, ◌<◌}
 use native.Mathlib.Omega.{arith}
 use lib.Dec.{ltb}
-use lib.ListN.{length}
 use borrow.Author.Tests.{ltb-true, ltb-false}
 use Rattle.types.specs.Value.{ticks_of}
 use Rattle.rules.specs.State as R
@@ -13,7 +12,7 @@ use Rattle.rules.proofs.Tests.{by_bool}
 use Rattle.plan_rules.specs.Run.{enough}
 use Rattle.plan_rules.specs.Listing.{end_line}
 use Rattle.plan_rules.proofs.Ends.{ends}
-use Rattle.plan_text.specs.Appends.{Appends, Listed, Finishes, Holds}
+use Rattle.plan_text.specs.Appends.{Appends, Finishes}
 use Rattle.plan_text.proofs.Appending.{listed_more}
 use Rattle.plan_text.proofs.Finished.{finished}
 use Rattle.plan_round.specs.declared.Turn.{Turn}
@@ -38,7 +37,7 @@ module _ (s : List ℕ) (t : Turn) (E Q Z B w y l : List ℕ) (i : Came s t E Q 
     reached = i.reached;
     listed = i.listed;
     number = i.number;
-    over = by_bool (ltb 0 number_of t.answer) (λ x. i.stops (ltb-true 0 number_of t.answer x)) (λ x. i.closes (k.refused e (λ z. let f = ltb-false 0 number_of t.answer x in absurd (omega arith))));
+    over = by_bool (ltb 0 (number_of t.answer)) (λ x. i.stops (ltb-true 0 (number_of t.answer) x)) (λ x. i.closes (k.refused e (λ z. let f = ltb-false 0 (number_of t.answer) x in absurd (omega arith))));
   }
 
 -- The last line, and zeros behind it.

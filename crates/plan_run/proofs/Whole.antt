@@ -96,9 +96,9 @@ module _ (s : List ℕ) (o : Opened) (E Q Z : List ℕ) (i : Opens s o E Q Z) (t
       listed = nothing_listed;
     };
     stops = i.stops;
-    closes = λ u. by_bool (eqb number_of o.answer 0)
-        (λ z. true_not_false (sym (i.goes (eqb-true number_of o.answer 0 z)).1 ∙ u))
-        (λ z. let f = eqb-false number_of o.answer 0 z in let p : 0 < number_of o.answer = omega arith in i.stops p);
+    closes = λ u. by_bool (eqb (number_of o.answer) 0)
+        (λ z. true_not_false (sym (i.goes (eqb-true (number_of o.answer) 0 z)).1 ∙ u))
+        (λ z. let f = eqb-false (number_of o.answer) 0 z in let p : 0 < number_of o.answer = omega arith in i.stops p);
   }
 
   pub came_start : (c : Counters) → c ≡ zero_counters → Came s (record { head = o.head; counters = c; answer = o.answer; at = 0; calls = o.calls }) E Q Z (zeroes 512) t y l

@@ -108,8 +108,8 @@ fn run_turns<'a>(
     // Kept by hand: it counts nothing, and ends when the host has no next call.
     while goes_on(t) {
         t = plan_round::take_turn(
-            t.head, t.counters, edges, pending, processes, batch, file, table, reply, listing, t.at,
-            t.calls,
+            t.head, t.counters, edges, pending, processes, batch, file, table, reply, listing,
+            t.at, t.calls,
         );
     }
     t

@@ -1,7 +1,7 @@
 use Rattle.plan_run.proofs.begin.Goals as goal
 -- `plan_run::begin` meets its contract.
 use borrow.Author.Rules.{rules}
-use Rattle.plan_round.proofs.Places.{refused_positive, accepted_zero}
+use Rattle.plan_round.proofs.Answered.{refused_positive, accepted_zero}
 use Rattle.plan_run.proofs.Opening.{opened_run, not_opened}
 
 pub returns-then-is_err : goal.returns-then-is_err

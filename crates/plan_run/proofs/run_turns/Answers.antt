@@ -3,10 +3,10 @@ use Rattle.plan_run.proofs.run_turns.Goals as goal
 use Rattle.plan_run.proofs.Running.{steps, nearer, ended}
 
 pub take_turn-t-requires : goal.take_turn-t-requires
-take_turn-t-requires c = steps _ _ _ _ _ _ _ _ _ c.loop-t.invariant _ c.goes_on.ensures c.loop-t-test.true
+take_turn-t-requires c = steps _ _ _ _ _ _ _ _ _ c.loop-edges.invariant _ c.goes_on.ensures c.loop-edges-test.true
 
-pub loop-t-smaller : goal.loop-t-smaller
-loop-t-smaller c = nearer _ _ _ _ _ _ _ _ _ c.loop-t.invariant _ c.goes_on.ensures c.loop-t-test.true _ _ _ _ _ _ _ _ c.take_turn-t.ensures
+pub loop-edges-smaller : goal.loop-edges-smaller
+loop-edges-smaller c = nearer _ _ _ _ _ _ _ _ _ c.loop-edges.invariant _ c.goes_on.ensures c.loop-edges-test.true _ _ _ _ _ _ _ _ c.take_turn-t.ensures
 
 pub returns : goal.returns
-returns c = ended _ _ _ _ _ _ _ _ _ c.loop-t.invariant _ c.goes_on.ensures c.loop-t-test.false
+returns c = ended _ _ _ _ _ _ _ _ _ c.loop-edges.invariant _ c.goes_on.ensures c.loop-edges-test.false
