@@ -115,9 +115,9 @@ no_ticks : ticks_of (record { hi = 0; lo = 0 }) ≡ 0
 unfolding halves
 no_ticks = refl
 
-pub refusal_line : (k : ℕ) (h : Header) (c : Counters) (old new : List ℕ) (b : Bool) (r : ℕ) → h ≡ empty_header → c ≡ zero_counters → EndsWith (record { head = h; counters = c; number = k; at = 0; calls = 0 }) old new b → r ≡ number_for b → HandsOver (listed (end_line k 0 0 0)) old new r
-refusal_line k h c old new b r e f g n =
-    refuses k old new b r (λ ls i. subst (λ (text : List ℕ). Holds (length old) (ls ++ text) new b) (λ j. end_line k ((ap (λ (x : Header). ticks_of x.gvt) e ∙ no_ticks) j) (f j).rounds (f j).null_messages) (g ls i)) n
+pub refusal_line : {m : ℕ} (k : ℕ) (h : Header) (c : Counters) (old new : List ℕ) (b : Bool) (r : ℕ) → k ≡ m → h ≡ empty_header → c ≡ zero_counters → EndsWith 0 k h c old new b → r ≡ number_for b → HandsOver (listed (end_line m 0 0 0)) old new r
+refusal_line {m} k h c old new b r is e f g n =
+    refuses m old new b r (λ ls i. subst (λ (text : List ℕ). Holds (length old) (ls ++ text) new b) (λ j. end_line (is j) ((ap (λ (x : Header). ticks_of x.gvt) e ∙ no_ticks) j) (f j).rounds (f j).null_messages) (g ls i)) n
 
 -- The whole run.
 pub ran_over : (s : List ℕ) → (build (setup_of (plan_of s)) R.zeros).answer ≡ Accepted → too_long (plan_of s) ≡ false → (old new : List ℕ) (b : Bool) (r : ℕ) → RunsBuilt s old new b → r ≡ number_for b → HandsOver (rehearsed (plan_of s)) old new r

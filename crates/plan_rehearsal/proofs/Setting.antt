@@ -2,7 +2,7 @@
 use mathlib.Core.Path.{◌≡◌, refl, sym, ap, ◌∙◌}
 use mathlib.Core.Bool.{Bool, true, false}
 use mathlib.Core.List.{List, ◌++◌, append-nil}
-use Prim.Native.Nat.{ℕ, ◌+◌, ◌*◌, ◌-◌, ◌≤◌}
+use Prim.Native.Nat.{ℕ, ◌+◌, ◌*◌, ◌-◌, ◌<◌, ◌≤◌}
 use native.Mathlib.Omega.{arith}
 use lib.Dec.{leb}
 use lib.ListN.{length, take, drop, drop_of_length-le}
@@ -19,12 +19,15 @@ use Rattle.rules.specs.Build.{Setup, setup, least_lookahead, built, build}
 use Rattle.rules.proofs.Demand.{sound_built}
 use Rattle.state.specs.declared.Header.{Header}
 use Rattle.build_topology.specs.Lookaheads.{lookaheads_for}
-use Rattle.build.specs.declared.BuildAnswer.{BuildAnswer}
+use Rattle.std.proofs.Common.{Result, Ok, Err}
+use Rattle.build.specs.declared.BuildRefusal.{BuildRefusal}
 use Rattle.build.specs.Checks.{ChecksBuild}
 use Rattle.build.specs.Numbers.{number_of}
 use Rattle.build.specs.Initialized.{CanInitialize, Initializes}
 use Rattle.build.proofs.Initializing as making
-use Rattle.build.proofs.Numbering.{numbered}
+use Rattle.build.proofs.Numbering.{numbered, refusing}
+use Rattle.plan_rules.specs.Listing.{listed, end_line, rehearsed}
+use Rattle.plan_rules.proofs.RefusalNumbers as refusals
 use Rattle.plan_file.specs.Format.{Got.got, gets}
 use Rattle.plan_file.specs.Grammar.{edge}
 use Rattle.plan_file.specs.Events.{event_count}
@@ -45,7 +48,7 @@ use Rattle.plan_round.specs.Reached.{plan_of}
 use Rattle.plan_run.specs.Opens.{Begun}
 use Rattle.plan_run.specs.RunsBuilt.{Built, InitialAt, Repliable}
 use Rattle.plan_rehearsal.specs.Rehearses.{Checked, early_number}
-use Rattle.plan_rehearsal.proofs.Rehearsing.{Early, early_passed}
+use Rattle.plan_rehearsal.proofs.Rehearsing.{Early, early_passed, early_refused, build_refused, build_accepted}
 use Rattle.plan_rehearsal.specs.Setups.{Known, CanMakeRows, IsSetup}
 
 -- The file.
@@ -53,10 +56,10 @@ module _ (s : List ℕ) (parts : Parts) (i : Checked s parts) where
   pub short_file : length s ≤ 16384
   short_file = (decoded s (plan_of s) i.read).size
 
-  pub few_there : Early (plan_of s) → parts.edges ≤ 512
+  few_there : Early (plan_of s) → parts.edges ≤ 512
   few_there e = omega (arith, i.parts_of.edges, e.few_edges)
 
-  pub edges_room : 337 + 140 * parts.edges ≤ length s * 8
+  edges_room : 337 + 140 * parts.edges ≤ length s * 8
   edges_room = file_room (plan_of s) s parts.edges i.parts_of.edges i.parts_of.edges_stand
 
   pub replies_there : RepliesAt s parts.replies_at parts.replies (plan_of s).replies
@@ -80,16 +83,27 @@ module _ (s : List ℕ) (parts : Parts) (i : Checked s parts) where
         countable = omega (arith, (widths s (plan_of s) i.read).initial_count);
       }
 
-pub known_of : (s : List ℕ) (parts : Parts) (header : PlanHeader) → Checked s parts → HeaderRead s header → Known s parts header
+known_of : (s : List ℕ) (parts : Parts) (header : PlanHeader) → Checked s parts → HeaderRead s header → Known s parts header
 known_of s parts header i h = record { checked = i; header_of = h (plan_of s) i.read }
+
+-- A refusal of build has a number above 0.
+refused_number : (r : BuildRefusal) → 0 < number_of (Err r)
+unfolding number
+refused_number r = refusing (Err r) r refl (λ why e. rw (numbered (Err r) _ e) (refusals.numbered why).positive)
 
 -- Build's lists.
 module _ (s : List ℕ) (parts : Parts) (header : PlanHeader) (ids sources counts ds ws : List ℕ) (i : IsSetup s parts header ids sources counts ds ws) where
   abbrev lists : Setup
   lists = setup header.n (duration_of header.lookahead) ids sources counts ds (lookaheads_for ds ws)
 
-  pub build_number_is : (a : BuildAnswer) → ChecksBuild header.n (duration_of header.lookahead) ids sources counts ds ws a → (n : ℕ) → n ≡ number_of a → n ≡ number (build (setup_of (plan_of s)) R.zeros).answer
-  build_number_is a j n e = e ∙ numbered a _ (j.of_counters R.zeros) ∙ ap (λ (x : Setup). number (build x R.zeros).answer) i.lists
+  build_number_is : (a : Result (Unit {0}) BuildRefusal) → ChecksBuild header.n (duration_of header.lookahead) ids sources counts ds ws a → number_of a ≡ number (build (setup_of (plan_of s)) R.zeros).answer
+  build_number_is a j = numbered a _ (j.of_counters R.zeros) ∙ ap (λ (x : Setup). number (build x R.zeros).answer) i.lists
+
+  pub setup_refused : (a : Result (Unit {0}) BuildRefusal) → ChecksBuild header.n (duration_of header.lookahead) ids sources counts ds ws a → (r : BuildRefusal) → a ≡ Err r → rehearsed (plan_of s) ≡ listed (end_line (number_of (Err r)) 0 0 0)
+  setup_refused a j r e = build_refused (plan_of s) _ (ap number_of (sym e) ∙ build_number_is a j) (refused_number r)
+
+  pub setup_accepted : (a : Result (Unit {0}) BuildRefusal) → ChecksBuild header.n (duration_of header.lookahead) ids sources counts ds ws a → (u : Unit {0}) → a ≡ Ok u → (build (setup_of (plan_of s)) R.zeros).answer ≡ Accepted
+  setup_accepted a j u e = build_accepted (plan_of s) _ (build_number_is a j) (ap number_of e)
 
   accepted_lists : (build (setup_of (plan_of s)) R.zeros).answer ≡ Accepted → (build lists R.zeros).answer ≡ Accepted
   accepted_lists a = ap (λ (x : Setup). (build x R.zeros).answer) i.lists ∙ a
@@ -138,11 +152,26 @@ module _ (s : List ℕ) (parts : Parts) (header : PlanHeader) (from ds ws : List
         lookaheads_are = i.lookaheads_are;
       }
 
-pub early_is : (s : List ℕ) (parts : Parts) (header : PlanHeader) → Known s parts header → (n : ℕ) → n ≡ early_number header.n (duration_of header.lookahead) parts.edges → n ≡ early_number (plan_of s).n (plan_of s).lookahead (length (plan_of s).edges)
+early_is : (s : List ℕ) (parts : Parts) (header : PlanHeader) → Known s parts header → (n : ℕ) → n ≡ early_number header.n (duration_of header.lookahead) parts.edges → n ≡ early_number (plan_of s).n (plan_of s).lookahead (length (plan_of s).edges)
 early_is s parts header i n e = e ∙ (λ j. early_number (i.header_of.n j) (i.header_of.lookahead j) (i.checked.parts_of.edges j))
 
-pub passed_early : (s : List ℕ) (parts : Parts) (header : PlanHeader) → Known s parts header → (n : ℕ) → n ≡ early_number header.n (duration_of header.lookahead) parts.edges → n ≡ 0 → Early (plan_of s)
-passed_early s parts header i n e z = early_passed (plan_of s) n (early_is s parts header i n e) z
+-- 1, 2 and 5 before rows are made: a refusal is listed, and what passes has few edges, with room for them in the file.
+pub record Passed (s : List ℕ) (parts : Parts) (header : PlanHeader) : Type 0 where
+  pub known : Known s parts header
+  pub early : Early (plan_of s)
+  pub few : parts.edges ≤ 512
+  pub room : 337 + 140 * parts.edges ≤ length s * 8
+  pub short : length s ≤ 16384
+
+module _ (s : List ℕ) (parts : Parts) (header : PlanHeader) (i : Checked s parts) (h : HeaderRead s header) (a : Result (Unit {0}) BuildRefusal) (n : number_of a ≡ early_number header.n (duration_of header.lookahead) parts.edges) where
+  pub listed_early : (r : BuildRefusal) → a ≡ Err r → rehearsed (plan_of s) ≡ listed (end_line (number_of (Err r)) 0 0 0)
+  listed_early r e = early_refused (plan_of s) _ (early_is s parts header (known_of s parts header i h) _ (ap number_of (sym e) ∙ n)) (refused_number r)
+
+  pub passed : (u : Unit {0}) → a ≡ Ok u → Passed s parts header
+  passed u e =
+      let k = known_of s parts header i h in
+      let early = early_passed (plan_of s) _ (early_is s parts header k _ n) (ap number_of e) in
+      record { known = k; early = early; few = few_there s parts i early; room = edges_room s parts i; short = short_file s parts i }
 
 -- Edges.
 module _ (s : List ℕ) (parts : Parts) (header : PlanHeader) (i : Known s parts header) (from ds : List ℕ) (r : ReadsEdges s parts.edges from ds) where

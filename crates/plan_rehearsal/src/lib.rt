@@ -70,13 +70,7 @@ fn rehearse_accepted<'a>(
 {
     let mut edges = [0u64; 3072];
     let mut processes = [0u64; 256];
-    let built = build::initialize(
-        header.n,
-        header.lookahead,
-        rows,
-        &mut edges,
-        &mut processes,
-    );
+    let built = build::initialize(header.n, header.lookahead, rows, &mut edges, &mut processes);
     let mut table = [0u64; 2112];
     plan_replies::find_replies(file, parts.replies_at, parts.replies, &mut table);
     let fits = plan_run::run_built(
