@@ -5,7 +5,7 @@ use mathlib.Core.List.{List, [], ◌∷◌, ◌++◌, append_assoc}
 use Prim.Native.Nat.{ℕ, zero, suc, ◌+◌, ◌-◌, ◌≤◌, ◌<◌}
 use native.Mathlib.Omega.{arith}
 use lib.Dec.{leb}
-use lib.ListN.{length, get_or, take, replicate, length-append, get_or-eq_default}
+use lib.ListN.{length, get_or, take, replicate, length-append}
 use lib.Seq.{take_at}
 use borrow.Author.Tests.{leb-true, leb-false}
 use Rattle.rules.specs.Base.{if◌then◌otherwise◌, Maybe, none, some}
