@@ -1,4 +1,5 @@
 -- A read by its tag.
+use Rattle.std.specs.Prelude.{Result}
 use mathlib.Core.Path.{◌≡◌, sym, subst}
 use Prim.Native.Nat.{ℕ}
 use borrow.Author.Tests.{ne_eqb}
@@ -9,7 +10,8 @@ use Rattle.rules.specs.Rows.{Out}
 use Rattle.rules.specs.Reads.{read_gvt, read_counters, read_pending, read_earliest}
 use Rattle.state.specs.declared.Runtime.{Runtime}
 use Rattle.state.specs.declared.Counters.{Counters}
-use Rattle.reads.specs.declared.ReadAnswer.{ReadAnswer}
+use Rattle.state.specs.declared.Refusal.{Refusal}
+use Rattle.reads.specs.declared.Reading.{Reading}
 use Rattle.reads.specs.Reads.{Reads}
 use Rattle.call_faces.specs.Tags.{read_by}
 
@@ -30,7 +32,7 @@ module _ (tag : ℕ) where
   unfolding read_by if◌then◌otherwise◌
   by_other n4 n5 n6 = rw (ne_eqb tag 4 n4, ne_eqb tag 5 n5, ne_eqb tag 6 n6)
 
-  module _ (s : Runtime) (c : Counters) (a : ReadAnswer) where
+  module _ (s : Runtime) (c : Counters) (a : Result Reading Refusal) where
     abbrev Read : (State → R.Counters → Out) → Type 0
     Read rule = Reads rule s c a
 

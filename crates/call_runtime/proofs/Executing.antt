@@ -1,4 +1,5 @@
 -- A call of `runtime` is the call that the words are.
+use Rattle.std.specs.Prelude.{Result}
 use mathlib.Core.Path.{◌≡◌, sym, subst, ap, ◌∙◌}
 use mathlib.Core.List.{List}
 use Prim.Native.Nat.{ℕ, ◌+◌, ◌*◌, ◌≤◌, ◌<◌}
@@ -13,6 +14,7 @@ use Rattle.rules.specs.Calls.{Call, AddInitial, Begin, Step, HandBack}
 use Rattle.state.specs.declared.Runtime.{Runtime}
 use Rattle.state.specs.declared.Counters.{Counters}
 use Rattle.state.specs.declared.Answer.{Answer}
+use Rattle.state.specs.declared.Refusal.{Refusal}
 use Rattle.state.specs.declared.Message.{Message}
 use Rattle.state.specs.View.{message_of}
 use Rattle.runtime.specs.Executes.{Executes}
@@ -41,7 +43,7 @@ module _ (w : List ℕ) (at : ℕ) (some : 0 < size (decode w at)) where
   pub back_there : 2 ≤ get_or w at 0 → (get_or w at 0 ≡ 2 → ⊥) → at + (3 + 8 * n) ≤ length w
   back_there above other = (back above other).there
 
-  module _ (s : Runtime) (c : Counters) (a : Answer) (t : Runtime) (d : Counters) where
+  module _ (s : Runtime) (c : Counters) (a : Result Answer Refusal) (t : Runtime) (d : Counters) where
     abbrev Executed : Call → Type 0
     Executed k = Executes k s c a t d
 

@@ -15,35 +15,24 @@ ghost use Rattle.runtime.specs.Builds.{Builds};
 ghost use Rattle.runtime.specs.Executes.{Executes};
 ghost use Rattle.reads.specs.Reads.{Reads};
 
-use reads::ReadAnswer;
+use build_topology::Rows;
+use reads::Reading;
 use reply_words::Emission;
 use runtime::{BuildResult, CallResult};
-use state::{Counters, Message, Runtime};
+use state::{Counters, Message, Refusal, Runtime};
 use types::{MAX_PENDING, SimDuration, SimTime};
 
-pub fn build<'a>(
+pub fn build(
     n: u64,
     lookahead: SimDuration,
-    ids: &'a [u32],
-    sources: &'a [u32],
-    counts: &'a [u64],
-    destinations: &'a [u32],
-    lookaheads: &'a [u64],
+    ids: &[u32],
+    rows: Rows<'_>,
     counters: Counters,
 ) -> BuildResult
-    ensures { Builds (setup n (duration_of lookahead) ids.now sources.now counts.now destinations.now (lookaheads_for destinations.now lookaheads.now)) counters result }
+    ensures { Builds (setup n (duration_of lookahead) ids.now rows.entry.sources.now rows.entry.counts.now rows.entry.destinations.now (lookaheads_for rows.entry.destinations.now rows.entry.lookaheads.now)) counters result }
 {
     let mut counted = counters;
-    let built = host::build(
-        n,
-        lookahead,
-        ids,
-        sources,
-        counts,
-        destinations,
-        lookaheads,
-        &mut counted,
-    );
+    let built = host::build(n, lookahead, ids, rows, &mut counted);
     BuildResult {
         answer: built.answer,
         state: built.state,
@@ -109,25 +98,25 @@ pub fn hand_back(
     }
 }
 
-pub fn read_gvt(state: Runtime, counters: Counters) -> ReadAnswer
+pub fn read_gvt(state: Runtime, counters: Counters) -> Result<Reading, Refusal>
     ensures { Reads read_gvt state counters result }
 {
     host::read_gvt(state, &counters)
 }
 
-pub fn read_counters(state: Runtime, counters: Counters) -> ReadAnswer
+pub fn read_counters(state: Runtime, counters: Counters) -> Result<Reading, Refusal>
     ensures { Reads read_counters state counters result }
 {
     host::read_counters(state, &counters)
 }
 
-pub fn read_pending(state: Runtime, counters: Counters) -> ReadAnswer
+pub fn read_pending(state: Runtime, counters: Counters) -> Result<Reading, Refusal>
     ensures { Reads read_pending state counters result }
 {
     host::read_pending(state, &counters)
 }
 
-pub fn read_earliest(state: Runtime, counters: Counters) -> ReadAnswer
+pub fn read_earliest(state: Runtime, counters: Counters) -> Result<Reading, Refusal>
     ensures { Reads read_earliest state counters result }
 {
     host::read_earliest(state, &counters)
