@@ -19,7 +19,9 @@ use Rattle.runtime.specs.declared.BuildResult.{BuildResult}
 use Rattle.runtime.specs.declared.CallResult.{CallResult}
 use Rattle.runtime.specs.Executes.{Executes}
 use Rattle.runtime.specs.Builds.{Builds}
-use Rattle.reads.specs.declared.ReadAnswer.{ReadAnswer}
+use Rattle.std.specs.Prelude.{Result}
+use Rattle.state.specs.declared.Refusal.{Refusal}
+use Rattle.reads.specs.declared.Reading.{Reading}
 use Rattle.reads.specs.Reads.{Reads, read_of}
 use Rattle.state.specs.View.{view_of, counters_of}
 use Rattle.build.specs.Checks.{answer_of}
@@ -61,7 +63,7 @@ carried s c [] i = tt
 carried s c (d ∷ ds) i = (carries s c d.asked d.gave i.0, carried d.gave.state d.gave.counters ds i.1)
 
 -- A read of what the list left answers what its rule does.
-read_as : {f : State → R.Counters → Out} (s : Runtime) (c : Counters) (x : ReadAnswer) → Reads f s c x → {a : Answer} → (f (view_of s) (counters_of c)).answer ≡ a → read_of x ≡ a
+read_as : {f : State → R.Counters → Out} (s : Runtime) (c : Counters) (x : Result Reading Refusal) → Reads f s c x → {a : Answer} → (f (view_of s) (counters_of c)).answer ≡ a → read_of x ≡ a
 read_as s c x l e = ap (λ (o : Out). o.answer) l.gives ∙ e
 
 read_after : (a : Setup) (r : BuildResult) (ls : List Link) → Demand3OfProgram a r ls → ReadAfter r ls
@@ -105,7 +107,7 @@ module _ {M : Type 1} {𝓤 : Ura M} (𝓛 : Logic 𝓤) (mem : Memory → SProp
 
     -- A read whose rule then answers y.
     host_read : (f : State → R.Counters → Out) (y : Answer) → (Demand3OfProgram a b ls → (f (view_of (state b ls)) (counters_of (counters b ls))).answer ≡ y)
-        → (d : Bor Counters) → d.now ≡ counters b ls → (x : ReadAnswer) → ent 𝓤 (conj 𝓤 P (fact 𝓤 (Reads f (state b ls) d.now x))) (fact 𝓤 (read_of x ≡ y))
+        → (d : Bor Counters) → d.now ≡ counters b ls → (x : Result Reading Refusal) → ent 𝓤 (conj 𝓤 P (fact 𝓤 (Reads f (state b ls) d.now x))) (fact 𝓤 (read_of x ≡ y))
     host_read f y p d e x =
         let Q = fact 𝓤 (Reads f (state b ls) d.now x) in
         fact_use 𝓤 _ (via 𝓤 P (conj_l 𝓤 P Q) host_demanded) (λ z.
@@ -160,9 +162,9 @@ program_theorem = record {
     host_pending = λ κs a g. refl;
     host_earliest = λ κs a g. refl;
   };
-  demand_3 = λ κs n L ids sources counts ds ws c r b e xs i.
+  demand_3 = λ κs n L ids rows c r b e xs i.
       let p = demand_3_of_the_program _ c r b e (map link_of xs) (carried r.state r.counters xs i) in
       (p, read_after _ r (map link_of xs) p);
-  host_demand_3 = λ 𝓤 𝓛 mem run κs n L ids sources counts ds ws c d r e xs t.
+  host_demand_3 = λ 𝓤 𝓛 mem run κs n L ids rows c d r e xs t.
       (host_demanded 𝓛 mem run _ c.now _ e xs t, host_read_after 𝓛 mem run _ c.now _ e xs t);
 }

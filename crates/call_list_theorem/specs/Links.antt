@@ -1,5 +1,5 @@
 -- A list of calls carried out by the program, each on the runtime and the counters that the one before left.
-use Rattle.std.specs.Prelude.{List, [], ◌∷◌, map}
+use Rattle.std.specs.Prelude.{List, [], ◌∷◌, map, Result}
 use Rattle.rules.specs.State.{State}
 use Rattle.rules.specs.Rows.{Out, out}
 use Rattle.rules.specs.Calls.{Call}
@@ -7,6 +7,7 @@ use Rattle.rules.specs.History.{Entry, History, entry}
 use Rattle.state.specs.declared.Runtime.{Runtime}
 use Rattle.state.specs.declared.Counters.{Counters}
 use Rattle.state.specs.declared.Answer.{Answer}
+use Rattle.state.specs.declared.Refusal.{Refusal}
 use Rattle.state.specs.View.{view_of, counters_of, answer_of}
 use Rattle.runtime.specs.declared.BuildResult.{BuildResult}
 use Rattle.runtime.specs.Executes.{Executes}
@@ -14,7 +15,7 @@ use Rattle.runtime.specs.Executes.{Executes}
 -- A call, what the program answered, and the runtime and the counters that it left.
 pub record Link : Type 0 where
   pub call : Call
-  pub answer : Answer
+  pub answer : Result Answer Refusal
   pub state : Runtime
   pub counters : Counters
 

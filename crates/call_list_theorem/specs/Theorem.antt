@@ -1,6 +1,6 @@
 -- Demand 3 of the functions themselves: what is known of each call is what the check proves of its function.
 -- Of each function F rattle makes `F.clauses`, the contract itself; `F.Reads.Learnt`, what a caller learns from its `ensures`; and `F.Statement.statement`, what "fn F: proved" proves. `RefT` is a reference, with the value that it refers to; the lifetimes κs play no part here.
-use Rattle.std.specs.Prelude.{◌≡◌, List, [], ◌∷◌, map, ℕ, ◌/◌, length}
+use Rattle.std.specs.Prelude.{◌≡◌, List, [], ◌∷◌, map, ℕ, ◌/◌, length, Result}
 use seplogic.Ra.Ura.{Ura}
 use base.Logic.{SProp, ent}
 use prog.Memory.{Memory}
@@ -74,7 +74,9 @@ use Rattle.host.specs.contracts.read_earliest as host_earliest
 use Rattle.host.proofs.read_earliest.Statement as host_earliest''
 use Rattle.host.specs.declared.HostBuildResult.{HostBuildResult}
 use Rattle.host.specs.HostBuildResult.{build_result_of}
-use Rattle.reads.specs.declared.ReadAnswer.{ReadAnswer}
+use Rattle.state.specs.declared.Refusal.{Refusal}
+use Rattle.reads.specs.declared.Reading.{Reading}
+use Rattle.build_topology.specs.declared.Rows.{Rows}
 use Rattle.reads.specs.Reads.{read_of}
 use Rattle.call_list_theorem.specs.Links.{Link, state_left, counters_left, history}
 use Rattle.call_list_theorem.specs.Demand3.{Demand3OfProgram}
@@ -140,17 +142,17 @@ module _ (r : BuildResult) (ls : List Link) where
 
   -- The functions of `reads`, called then.
   pub record ReadAfter : Type 0 where
-    pub gvt : (a : ReadAnswer) → read_gvt'.Learnt tt (state, (counters, tt)) a (state, (counters, tt)) → read_of a ≡ gvt_after
-    pub counted : (a : ReadAnswer) → read_counters'.Learnt tt (state, (counters, tt)) a (state, (counters, tt)) → read_of a ≡ counters_after
-    pub pending : (a : ReadAnswer) → read_pending'.Learnt tt (state, (counters, tt)) a (state, (counters, tt)) → read_of a ≡ pending_after
-    pub earliest : (a : ReadAnswer) → read_earliest'.Learnt tt (state, (counters, tt)) a (state, (counters, tt)) → read_of a ≡ earliest_after
+    pub gvt : (a : Result Reading Refusal) → read_gvt'.Learnt tt (state, (counters, tt)) a (state, (counters, tt)) → read_of a ≡ gvt_after
+    pub counted : (a : Result Reading Refusal) → read_counters'.Learnt tt (state, (counters, tt)) a (state, (counters, tt)) → read_of a ≡ counters_after
+    pub pending : (a : Result Reading Refusal) → read_pending'.Learnt tt (state, (counters, tt)) a (state, (counters, tt)) → read_of a ≡ pending_after
+    pub earliest : (a : Result Reading Refusal) → read_earliest'.Learnt tt (state, (counters, tt)) a (state, (counters, tt)) → read_of a ≡ earliest_after
 
   -- The reads of `host`, called then with a loan c of the counters, where P is known of the list.
   pub record HostReadAfter {M : Type 1} {𝓤 : Ura M} (𝓛 : Logic 𝓤) (mem : Memory → SProp 𝓤) (run : Routine → Fun 𝓤) (P : SProp 𝓤) : Type 1 where
-    pub gvt : (κs : Lfts 1) (c : Bor Counters) → c.now ≡ counters → (a : ReadAnswer) → ent 𝓤 (conj 𝓤 P ((host_gvt.clauses 𝓛 mem run κs (state, (c, tt))).ensures tt a (state, (c, tt)))) (fact 𝓤 (read_of a ≡ gvt_after))
-    pub counted : (κs : Lfts 1) (c : Bor Counters) → c.now ≡ counters → (a : ReadAnswer) → ent 𝓤 (conj 𝓤 P ((host_counters.clauses 𝓛 mem run κs (state, (c, tt))).ensures tt a (state, (c, tt)))) (fact 𝓤 (read_of a ≡ counters_after))
-    pub pending : (κs : Lfts 1) (c : Bor Counters) → c.now ≡ counters → (a : ReadAnswer) → ent 𝓤 (conj 𝓤 P ((host_pending.clauses 𝓛 mem run κs (state, (c, tt))).ensures tt a (state, (c, tt)))) (fact 𝓤 (read_of a ≡ pending_after))
-    pub earliest : (κs : Lfts 1) (c : Bor Counters) → c.now ≡ counters → (a : ReadAnswer) → ent 𝓤 (conj 𝓤 P ((host_earliest.clauses 𝓛 mem run κs (state, (c, tt))).ensures tt a (state, (c, tt)))) (fact 𝓤 (read_of a ≡ earliest_after))
+    pub gvt : (κs : Lfts 1) (c : Bor Counters) → c.now ≡ counters → (a : Result Reading Refusal) → ent 𝓤 (conj 𝓤 P ((host_gvt.clauses 𝓛 mem run κs (state, (c, tt))).ensures tt a (state, (c, tt)))) (fact 𝓤 (read_of a ≡ gvt_after))
+    pub counted : (κs : Lfts 1) (c : Bor Counters) → c.now ≡ counters → (a : Result Reading Refusal) → ent 𝓤 (conj 𝓤 P ((host_counters.clauses 𝓛 mem run κs (state, (c, tt))).ensures tt a (state, (c, tt)))) (fact 𝓤 (read_of a ≡ counters_after))
+    pub pending : (κs : Lfts 1) (c : Bor Counters) → c.now ≡ counters → (a : Result Reading Refusal) → ent 𝓤 (conj 𝓤 P ((host_pending.clauses 𝓛 mem run κs (state, (c, tt))).ensures tt a (state, (c, tt)))) (fact 𝓤 (read_of a ≡ pending_after))
+    pub earliest : (κs : Lfts 1) (c : Bor Counters) → c.now ≡ counters → (a : Result Reading Refusal) → ent 𝓤 (conj 𝓤 P ((host_earliest.clauses 𝓛 mem run κs (state, (c, tt))).ensures tt a (state, (c, tt)))) (fact 𝓤 (read_of a ≡ earliest_after))
 
 -- No function of either face asks anything of its caller.
 pub record NothingAsked {M : Type 1} {𝓤 : Ura M} (𝓛 : Logic 𝓤) (mem : Memory → SProp 𝓤) (run : Routine → Fun 𝓤) : Type 2 where
@@ -194,14 +196,14 @@ pub record ProgramTheorem (M : Type 1) : Type 2 where
   pub host_pending_meets : host_pending''.statement M
   pub host_earliest_meets : host_earliest''.statement M
   pub nothing_asked : (𝓤 : Ura M) (𝓛 : Logic 𝓤) (mem : Memory → SProp 𝓤) (run : Routine → Fun 𝓤) → NothingAsked 𝓛 mem run
-  pub demand_3 : (κs : Lfts 1) (n : ℕ) (L : SimDuration) (ids sources counts destinations lookaheads : Bor (List ℕ)) (c : Counters) (r : BuildResult)
-      → build'.Learnt κs (n, (L, (ids, (sources, (counts, (destinations, (lookaheads, (c, tt)))))))) r (n, (L, (ids, (sources, (counts, (destinations, (lookaheads, (c, tt))))))))
+  pub demand_3 : (κs : Lfts 2) (n : ℕ) (L : SimDuration) (ids : Bor (List ℕ)) (rows : Rows) (c : Counters) (r : BuildResult)
+      → build'.Learnt κs (n, (L, (ids, (rows, (c, tt))))) r (n, (L, (ids, (rows, (c, tt)))))
       → answer_of r.answer ≡ Accepted
       → (ds : List CallMade) → ContractsHold r.state r.counters ds
-      → Demand3OfProgram (setup n (duration_of L) ids.now sources.now counts.now destinations.now (lookaheads_for destinations.now lookaheads.now)) r (map link_of ds) × ReadAfter r (map link_of ds)
-  pub host_demand_3 : (𝓤 : Ura M) (𝓛 : Logic 𝓤) (mem : Memory → SProp 𝓤) (run : Routine → Fun 𝓤) (κs : Lfts 2) (n : ℕ) (L : SimDuration) (ids sources counts destinations lookaheads : Bor (List ℕ)) (c d : MutBor Counters) (r : HostBuildResult)
+      → Demand3OfProgram (setup n (duration_of L) ids.now rows.sources.now rows.counts.now rows.destinations.now (lookaheads_for rows.destinations.now rows.lookaheads.now)) r (map link_of ds) × ReadAfter r (map link_of ds)
+  pub host_demand_3 : (𝓤 : Ura M) (𝓛 : Logic 𝓤) (mem : Memory → SProp 𝓤) (run : Routine → Fun 𝓤) (κs : Lfts 3) (n : ℕ) (L : SimDuration) (ids : Bor (List ℕ)) (rows : Rows) (c d : MutBor Counters) (r : HostBuildResult)
       → answer_of r.answer ≡ Accepted
       → (ds : List HostCallMade) → LentInTurn d.now ds
       → let b = build_result_of r d.now in
-      let P = conj 𝓤 ((host_build.clauses 𝓛 mem run κs (n, (L, (ids, (sources, (counts, (destinations, (lookaheads, (c, tt))))))))).ensures tt r (n, (L, (ids, (sources, (counts, (destinations, (lookaheads, (d, tt))))))))) (AllEnsured 𝓛 mem run r.state ds) in
-      ent 𝓤 P (fact 𝓤 (Demand3OfProgram (setup n (duration_of L) ids.now sources.now counts.now destinations.now (lookaheads_for destinations.now lookaheads.now)) b (map Host.link_of ds))) × HostReadAfter b (map Host.link_of ds) 𝓛 mem run P
+      let P = conj 𝓤 ((host_build.clauses 𝓛 mem run κs (n, (L, (ids, (rows, (c, tt)))))).ensures tt r (n, (L, (ids, (rows, (d, tt)))))) (AllEnsured 𝓛 mem run r.state ds) in
+      ent 𝓤 P (fact 𝓤 (Demand3OfProgram (setup n (duration_of L) ids.now rows.sources.now rows.counts.now rows.destinations.now (lookaheads_for rows.destinations.now rows.lookaheads.now)) b (map Host.link_of ds))) × HostReadAfter b (map Host.link_of ds) 𝓛 mem run P
