@@ -1,19 +1,17 @@
 -- What each return of add initial gives.
-use Rattle.std.specs.Prelude.{Result, Ok, Err}
-use Rattle.std.proofs.lemmas.Result.{MatchResult-weaker}
-use mathlib.Core.Path.{◌≡◌, refl, sym, ap, subst, ◌∙◌}
+use Rattle.std.specs.Prelude.{Ok, Err}
+use mathlib.Core.Path.{◌≡◌, sym, ap, ◌∙◌}
 use mathlib.Core.Bool.{Bool, true, false}
 use mathlib.Core.List.{List}
 use Prim.Native.Nat.{ℕ, suc, ◌+◌, ◌≤◌, ◌<◌}
 use native.Mathlib.Omega.{arith}
 use lib.Dec.{leb, ltb}
 use lib.ListN.{length}
-use borrow.Author.Tests.{ltb-false, leb-true, leb-false, lt-ltb, le-ltb, le-leb, lt-leb}
+use borrow.Author.Tests.{leb-true, leb-false, lt-ltb, le-ltb, le-leb, lt-leb}
 use Rattle.types.specs.Value.{lp_id_of}
 use Rattle.words.proofs.Tab.{length_tab}
-use Rattle.records.specs.declared.Record.{Record}
 use Rattle.records.specs.Records.{event_at, edges_of, events_of}
-use Rattle.records.specs.Queue.{CanInsert, Inserted}
+use Rattle.records.specs.Queue.{CanInsert}
 use Rattle.records.proofs.Stored.{length_payload}
 use Rattle.rules.specs.Base.{if◌then◌otherwise◌}
 use Rattle.rules.specs.State as R
@@ -27,12 +25,10 @@ use Rattle.rules.proofs.Tests.{by_bool}
 use Rattle.state.specs.declared.Header.{Header}
 use Rattle.state.specs.declared.Message.{Message}
 use Rattle.state.specs.declared.Answer.TheVariants as D
-use Rattle.state.specs.declared.Refusal.{Refusal}
 use Rattle.state.specs.declared.Refusal.TheVariants as P
 use Rattle.state.specs.View.{view, message_of}
-use Rattle.state.specs.Headers.{enqueued_header}
 use Rattle.state.proofs.Moves.{accepted_moves}
-use Rattle.schedule_initial.specs.AddsInitial.{record_of, CanEnqueue, InitialAllowed, HasRoom, Refuses, RowsPassed, QueueRefusal, InitialRefusal, Enqueues, AddsInitial}
+use Rattle.schedule_initial.specs.AddsInitial.{record_of, CanEnqueue, InitialAllowed, HasRoom, RowsPassed, QueueRefusal, InitialRefusal, Enqueues, AddsInitial}
 
 -- The rows, each with those before it passed.
 module _ (s : State) (c : Counters) (m : R.Message) where
@@ -87,12 +83,6 @@ pub record_is : (m : Message) (k a b : ℕ) → a ≡ lp_id_of m.destination →
 unfolding record_of
 record_is m k a b e f = λ i. record { destination = e i; hi = m.tick.hi; lo = m.tick.lo; source = f i; sequence = k; len = m.len; payload_hi = m.payload_hi; payload_lo = m.payload_lo }
 
-pub enqueued : (h : Header) (Q : List ℕ) (m : Message) (r : Record) (Q' : List ℕ) → r ≡ record_of m h.next → Inserted h.pending r Q Q' → Enqueues h Q m (enqueued_header h) Q'
-enqueued h Q m r Q' e i = record { head = refl; inserted = subst (λ (y : Record). Inserted h.pending y Q Q') e i }
-
-pub led : (es : List R.Edge) (x y a b : ℕ) (t : Bool) → a ≡ x → b ≡ y → t ≡ route es a b → t ≡ route es x y
-led es x y a b t ea eb e = e ∙ (λ j. route es (ea j) (eb j))
-
 -- Row 19 as the program tests it.
 one_over : (m k : ℕ) → leb m k ≡ ltb m (k + 1)
 one_over m k = by_bool (leb m k) (λ y. y ∙ sym (lt-ltb m (k + 1) (omega (arith, leb-true m k y)))) (λ y. y ∙ sym (le-ltb m (k + 1) (omega (arith, leb-false m k y))))
@@ -121,9 +111,6 @@ module _ (h : Header) (m : Message) where
       pub queue_late : u ≡ true → QueueRefusal h m (Err P.EventSequenceOverflow)
       queue_late x = λ E Q Z B c i. sym (row_19 (view h E Q Z B) c (message_of m) i (short l) (room false k Q) (sym eu ∙ x))
 
-      pub queue_open : u ≡ false → QueueRefusal h m (Ok tt)
-      queue_open x = record { short = l; place = omega (arith, ltb-false max_pending (h.pending + 1) (sym et ∙ k)); number = omega (arith, ltb-false max_count (h.next + 1) (sym eu ∙ x)) }
-
 -- Rows 12 to 16, and then those of the queue.
 module _ (h : Header) (E : List ℕ) (m : Message) where
   pub add_poisoned : h.poisoned ≡ true → InitialRefusal h E m (Err P.Poisoned)
@@ -151,12 +138,7 @@ module _ (h : Header) (E : List ℕ) (m : Message) where
           pub add_unrouted : t ≡ false → InitialRefusal h E m (Err (P.InitialRouteMissing m.source m.destination))
           add_unrouted u = λ Q Z B c f. sym (row-16 (view h E Q Z B) c (message_of m) f p o known reached (sym et ∙ u))
 
-          pub add_queued : t ≡ true → (r : Result (Unit {0}) Refusal) → QueueRefusal h m r → InitialRefusal h E m r
-          add_queued u r d =
-              let lets : RowsPassed h E m = λ Q Z B f. record { passes = f; healthy = p; opened = o; source = known; destination = reached; routed = sym et ∙ u } in
-              MatchResult-weaker r d (λ _ room. (room, lets)) (λ e refused Q Z B c f. refused E Q Z B c (lets Q Z B f))
-
--- Then the queue, or nothing.
+-- Then the queue.
 module _ (h : Header) (E Q : List ℕ) (m : Message) where
   pub added : HasRoom h m × RowsPassed h E m → (k : Header) (Q' : List ℕ) → Enqueues h Q m k Q' → AddsInitial h E Q m (record { answer = Ok D.Accepted; head = k }) Q'
   unfolding record_of
@@ -168,6 +150,3 @@ module _ (h : Header) (E Q : List ℕ) (m : Message) where
         ∙ sym (accepted (view h E Q Z B) c (message_of m) (p.1 Q Z B f) (short h m p.0.short) t (le-ltb max_count (h.next + 1) (omega (arith, p.0.number))));
     kept = λ es y. accepted_moves y;
   })
-
-  pub as_given_holds : (e : Refusal) → Refuses (λ s. foreign s ≡ false) h E m e → AddsInitial h E Q m (record { answer = Err e; head = h }) Q
-  as_given_holds e d = record { gives = λ Z B c f. d Q Z B c f; kept = λ es y. (refl, refl) }

@@ -1,4 +1,4 @@
-use Rattle.schedule_initial.proofs.Adding.{queue_long, queue_full, queue_late, queue_open}
+use Rattle.schedule_initial.proofs.Adding.{queue_long, queue_full, queue_late}
 use Rattle.schedule_initial.proofs.queue_refusal.Goals as goal
 
 pub returns-then-m-gt-MAX_PAYLOAD : goal.returns-then-m-gt-MAX_PAYLOAD
@@ -11,7 +11,3 @@ returns-then-is_queue_full c =
 pub returns-then-sequence_exhausted : goal.returns-then-sequence_exhausted
 returns-then-sequence_exhausted c =
     queue_late _ _ c.if-m-gt-MAX_PAYLOAD.false _ c.is_queue_full.ensures c.if-is_queue_full.false _ c.sequence_exhausted.ensures c.if-sequence_exhausted.true
-
-pub returns : goal.returns
-returns c =
-    queue_open _ _ c.if-m-gt-MAX_PAYLOAD.false _ c.is_queue_full.ensures c.if-is_queue_full.false _ c.sequence_exhausted.ensures c.if-sequence_exhausted.false

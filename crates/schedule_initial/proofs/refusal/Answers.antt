@@ -1,5 +1,5 @@
 use Rattle.rules.proofs.Tests.{not_true, not_false}
-use Rattle.schedule_initial.proofs.Adding.{add_poisoned, add_closed, add_source, add_destination, add_unrouted, add_queued}
+use Rattle.schedule_initial.proofs.Adding.{add_poisoned, add_closed, add_source, add_destination, add_unrouted}
 use Rattle.schedule_initial.proofs.refusal.Goals as goal
 
 pub returns-then-head : goal.returns-then-head
@@ -20,7 +20,3 @@ returns-then-n-to_word-2 c =
 pub returns-then-not-has_route : goal.returns-then-not-has_route
 returns-then-not-has_route c =
     add_unrouted _ _ _ c.if-head.false (not_false _ c.if-not-head.false) _ c.to_word.ensures c.if-n-to_word.false _ c.to_word-2.ensures c.if-n-to_word-2.false _ c.has_route.ensures (not_true _ c.if-not-has_route.true-raw)
-
-pub returns : goal.returns
-returns c =
-    add_queued _ _ _ c.if-head.false (not_false _ c.if-not-head.false) _ c.to_word.ensures c.if-n-to_word.false _ c.to_word-2.ensures c.if-n-to_word-2.false _ c.has_route.ensures (not_false _ c.if-not-has_route.false-raw) _ c.queue_refusal.ensures

@@ -1,21 +1,6 @@
-use borrow.Author.Rules.{rules}
-use native.Mathlib.Omega.{arith}
 use borrow.Author.Tests.{lt-ltb, le-ltb}
 use Rattle.step_advance.proofs.Advancing.{advance_is}
 use Rattle.step_advance.proofs.advance.Goals as goal
-
-pub raise_bounds-raised-requires : goal.raise_bounds-raised-requires
-raise_bounds-raised-requires c =
-    let m = c.requires.0 in
-    record {
-      few = m.few;
-      few_processes = m.few_processes;
-      edge_words = omega (arith, m.few, m.edge_words);
-      first_words = search rules;
-      process_words = search rules;
-      sources = m.sources;
-      destinations = m.destinations;
-    }
 
 pub returns-then-raised-gt0 : goal.returns-then-raised-gt0
 returns-then-raised-gt0 c =
