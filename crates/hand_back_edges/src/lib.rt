@@ -3,8 +3,8 @@
 //
 // In the cores the table has a row of 64 entries for each event in hand, so that a small round clears
 // little. A reply of records is read with all its tables in one array of words; there the table has the
-// lookaheads themselves, of every pair of processes. These are leaves: each asks that the words it
-// touches are there.
+// lookaheads themselves, of every pair of processes. Kept as two tables: they differ in what they hold
+// and where, not in a type or a size. These are leaves: each asks that the words it touches are there.
 
 #![tactic(auto)]
 
@@ -17,7 +17,8 @@ ghost use Rattle.hand_back_edges.specs.Lookaheads.{lookahead_in, PutsLookahead, 
 use reply_words::Emission;
 use types::{MAX_PROCESSES, SimDuration};
 
-// The edge i goes to the entry `to` of a row; rows are counted from 1.
+// The edge i goes to the entry `to` of a row; rows are counted from 1. Kept as one above the index, with 0
+// for none: a table of Option<u16> is twice as long, and it is cleared for each reply.
 fn put_entry(table: &mut [u16], row: usize, to: usize, i: usize)
     requires { (0 < row) × (64 * row ≤ length table.old) × (to < 64) × (i < 512) }
     ensures { table.new ≡ set table.old (64 * (row - 1) + to) (i + 1) }
