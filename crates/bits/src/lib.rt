@@ -1,5 +1,6 @@
 // Fields of up to 64 bits in a byte slice, most significant bit first. A place is counted in bits from
-// the slice's start.
+// the slice's start. Kept apart: slice, place and width. Readers ask for another place and width at each
+// call, so that a struct of them would be made and taken apart each time.
 
 #![tactic(auto)]
 

@@ -3,6 +3,10 @@
 //
 // One pass over the file: of each event only its payload's length is read. Nothing is copied; what
 // stands at the places is read by the crate plan_reader.
+//
+// Kept apart: the file and a place in it, and that the file is short. `check_file` takes any slice and the
+// crate `bits` takes slices, so a struct would be made here and taken apart at each call, and a place
+// changes from call to call.
 
 #![tactic(auto)]
 
