@@ -10,7 +10,7 @@ ghost use Rattle.words.specs.Words.{ticks_in};
 use types::{SimDuration, SimTime};
 
 // "the least edge lookahead, or the plan's if there is no edge": of the lookaheads of so many edges, two
-// words each, the upper half first.
+// words each, the upper half first. Kept with its count: the slice may be longer (the clause says so).
 #[tactic(auto, using(crate::proofs::Leasts::no_edge))]
 pub fn least_lookahead(lookaheads: &[u64], count: usize, plan: SimDuration) -> SimDuration
     requires { 2 * count ≤ length lookaheads.now }

@@ -1,7 +1,8 @@
 // Records of a checked plan file, read where they stand: a message, the emissions of a reply as words
 // that hand back takes, the header. A place is counted in bits from the file's start.
 //
-// These are leaves: each asks that what it reads is there, which crate plan_file's check gives.
+// These are leaves: each asks that what it reads is there, which crate plan_file's check gives. Kept
+// apart, as there: the file and a place in it.
 
 #![tactic(auto)]
 

@@ -1,5 +1,6 @@
 // The replies of a plan file, found by a table: for each process its next reply, for each reply where
-// it stands and which is the next of its process. So no round looks for a reply.
+// it stands and which is the next of its process. So no round looks for a reply. Kept as words with links
+// by number: a rehearsal has no heap, and the table is lent.
 
 #![tactic(auto)]
 

@@ -1,6 +1,7 @@
 // One turn of a plan's host: a step, and, where that hands out a batch, its lines and its reply.
 //
-// All arrays are lent, so no state is copied, and replies are read from the file where they stand.
+// All arrays are lent, so no state is copied, and replies are read from the file where they stand. Kept
+// each by itself, as step and hand_back take them: a struct of them would be taken apart at each call.
 
 #![tactic(auto)]
 

@@ -1,5 +1,5 @@
 // The run of a plan file on lent arrays: what build made, the initial events in turn, begin, and then
-// turns of the host until it has no next call.
+// turns of the host until it has no next call. Kept each by itself, as in plan_round: the arrays.
 
 #![tactic(auto)]
 

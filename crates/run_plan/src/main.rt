@@ -26,6 +26,7 @@ fn rehearse(plan: &[u8], listing: &mut [u8]) -> usize
     ensures listing_after { take result listing.new ≡ printed plan.now }
     ensures upper_bound { result ≤ length listing.new }
 {
+    // Kept by hand: a number, which is what the export gives a host in C.
     if 0 < dorrezubi::dorrezubi_run_plan(plan, listing) {
         return 0;
     }
