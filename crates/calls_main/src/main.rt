@@ -2,8 +2,8 @@
 
 #![tactic(auto)]
 
-use call_faces::RUNTIME;
+use call_runtime::ByValue;
 
 fn main() {
-    call_session::run(RUNTIME);
+    call_session::run::<ByValue>();
 }
