@@ -1,14 +1,11 @@
 -- How far a list of calls has come.
-use mathlib.Core.Path.{◌≡◌, sym, subst}
+use mathlib.Core.Path.{◌≡◌}
 use mathlib.Core.List.{List}
 use Prim.Native.Nat.{ℕ, ◌+◌, ◌≤◌, ◌<◌}
 use lib.ListN.{length}
 use Rattle.call_words.specs.Decode.{decode, size}
 use Rattle.call_words.proofs.Decoding.{sound}
 
-module _ (w : List ℕ) (at count : ℕ) (e : count ≡ size (decode w at)) (l : 0 < count) where
-  pub some : 0 < size (decode w at)
-  some = subst (λ (n : ℕ). 0 < n) e l
-
-  pub behind : at + count ≤ length w
-  behind = subst (λ (n : ℕ). at + n ≤ length w) (sym e) ((sound w at).there some)
+-- The words of a call are there.
+pub behind : (w : List ℕ) (at n : ℕ) → n ≡ size (decode w at) → 0 < n → at + n ≤ length w
+behind w at n e l = rw e ((sound w at).there (rw e at l))

@@ -27,9 +27,10 @@ pub enum TopologyRefusal {
 }
 
 // The rows as a host lends them: a count for each source, and two words of lookahead for each
-// destination. Kept as lists side by side: so C lends them (include/dorrezubi.h). Kept without an
-// invariant: 5 is asked of any rows, and what asks for rows that passed it (`check` here, and
-// build_edges::write_edges) is named in docs/WHERE.md, so that it may take no narrower type.
+// destination. Kept as lists side by side: document 01's build takes ids and rows as lent lists, and what
+// bench_rounds exports to C takes them so. Kept without an invariant: 5 is asked of any rows, and what
+// asks for rows that passed it (`check` here, and build_edges::write_edges) is named in docs/WHERE.md, so
+// that it may take no narrower type.
 #[derive(Clone, Copy)]
 pub struct Rows<'a> {
     pub sources: &'a [u32],

@@ -3,8 +3,8 @@
 
 #![tactic(auto)]
 
-use call_faces::HOST;
+use call_host::ByHost;
 
 fn main() {
-    call_session::run(HOST);
+    call_session::run::<ByHost>();
 }

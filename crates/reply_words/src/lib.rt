@@ -53,8 +53,8 @@ pub fn failed(mask: u64, p: u64) -> bool
 
 // The place of each process's event in the batch, counted from 1; for a process that has none the table
 // keeps its 0. From the end: the first is what stays.
-// Kept as words, with 0 for none: a host that has no room for tables of its own lends them (host_reply),
-// and a table of `Option<usize>` is twice as long to clear for each reply.
+// Kept as words, with 0 for none: a table of `Option<usize>` is twice as long to clear for each reply, and
+// host_hand_back has it as a part of one array of words.
 pub fn find_places(batch: &[u64], count: usize, places: &mut [u64])
     requires { (8 * count ≤ length batch.now) × (places.old ≡ zeroes 64) × Owners count batch.now }
     ensures { Places (events_of count batch.now) places.new }

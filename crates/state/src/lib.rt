@@ -12,7 +12,7 @@ use types::{LpId, MAX_COUNT, MAX_PENDING, SimDuration, SimTime};
 // The small fields of a runtime. `edges`, `pending` and `batch` are how many there are; `next` is the
 // next sequence number; `stored` says whether `horizon` and `budget` are set; `initial`, that initial
 // events are open; `running`, that a run is open. `stored` is kept beside what it tells of, and is no
-// Option: 11 and the rules' view (`stored_of`) read the three apart, and a state given whole has them all.
+// Option: the rules' view (`stored_of`) reads the three apart, and a state given whole has them all.
 #[derive(Clone, Copy, Default)]
 pub struct Header {
     pub n: usize,
