@@ -55,14 +55,14 @@ module _ (h : Header) (c : Counters) (E Q Z B : List ℕ) (l : ValidArrays h E Q
 -- 12 and 23, as the program tests them.
 module _ (h : Header) where
   pub poisoned : h.poisoned ≡ true → StepRefusal h (Err P.Poisoned)
-  poisoned p = λ c E Q Z B l. step_of_poisoned h c E Q Z B l p
+  poisoned p = (λ s. not_both p s.healthy, λ c E Q Z B l. step_of_poisoned h c E Q Z B l p)
 
   module _ (p : h.poisoned ≡ false) where
     pub closed : h.running ≡ false → StepRefusal h (Err P.NothingToStep)
-    closed r = λ c E Q Z B l. step_closed h c E Q Z B l p (rw r)
+    closed r = (λ s. not_both s.open_run r, λ c E Q Z B l. step_closed h c E Q Z B l p (rw r))
 
     pub held : 0 < h.batch → StepRefusal h (Err P.NothingToStep)
-    held k = λ c E Q Z B l. step_held h c E Q Z B l p k
+    held k = (λ s. omega (arith, s.empty), λ c E Q Z B l. step_held h c E Q Z B l p k)
 
 pub passed : (h : Header) (r : Result (Unit {0}) Refusal) → StepRefusal h r → ((e : Refusal) → r ≡ Err e → ⊥) → CanStep h
 passed h (Ok u) p n = p

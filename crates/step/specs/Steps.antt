@@ -50,9 +50,9 @@ pub record CanStep (h : Header) : Type 0 where
 abbrev pub Refuses : Header → Counters → CoreResult → Type 0
 Refuses h c r = (E P Z B : List ℕ) → ValidArrays h E P Z B → Steps h c E P Z B r E P Z B
 
--- What rows 12 and 23 answer, whatever the counters are.
+-- What rows 12 and 23 answer, whatever the counters are; and they refuse only a step that may not be made.
 abbrev pub StepRefusal : Header → Result (Unit {0}) Refusal → Type 0
-StepRefusal h r = RefusalOr r (CanStep h) (λ e. (c : Counters) → Refuses h c (record { answer = Err e; head = h; counters = c }))
+StepRefusal h r = RefusalOr r (CanStep h) (λ e. (CanStep h → ⊥) × ((c : Counters) → Refuses h c (record { answer = Err e; head = h; counters = c })))
 
 -- The batch in hand is answered.
 abbrev pub batch_answered : Header → Counters → CoreResult

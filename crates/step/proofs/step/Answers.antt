@@ -3,7 +3,7 @@ use Rattle.step.proofs.Stepping.{passed, step_batch, step_on, takeable, advancea
 use Rattle.step.proofs.step.Goals as goal
 
 pub returns-in-Err : goal.returns-in-Err
-returns-in-Err c = c.in-Err.ensures _ _ _ _ _ c.requires
+returns-in-Err c = c.in-Err.ensures.1 _ _ _ _ _ c.requires
 
 pub hand_out-h-requires : goal.hand_out-h-requires
 hand_out-h-requires c =
