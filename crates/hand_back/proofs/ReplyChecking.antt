@@ -199,7 +199,7 @@ module _ (w : List ℕ) where
       unfolding Ends Commits
       committed s t Q' e Z' B' r n E mask g d = n E Q a g (sound s).0 refl mask (replied_of w) (subst (λ (y : ℕ). ReplyChecked h E Q Z B a mask y (replied_of w)) count_is d) (rw count_is at e.events)
 
-      pub lost : (x : Refusal) → v ≡ Err x → (r : CoreResult) (B' : List ℕ) → Poisons x h c r → Commits h c Q Z B a (replied_of w) r Q Z B'
+      pub lost : (x : Refusal) → v ≡ Err x → (r : CoreResult) (B' : List ℕ) → Poisons (Err x) h c r → Commits h c Q Z B a (replied_of w) r Q Z B'
       unfolding Finishes Commits
       lost x e r B' d E mask g t = loses x e h c E Q Z B r B' refl refl g d mask (replied_of w) (subst (λ (y : ℕ). ReplyChecked h E Q Z B a mask y (replied_of w)) count_is t)
 

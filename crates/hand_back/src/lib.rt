@@ -61,7 +61,7 @@ fn review_with<'a, const WORDS: usize>(
 {
     let mut table = [0u16; WORDS];
     hand_back_edges::find_edges(lent.edges, lent.head.edges, places, &mut table);
-    hand_back_check::check_words(lent, &table, places, start, reply, count)
+    hand_back_check::check_words(lent, &table, places, Ok(start), reply, count)
 }
 
 // The emissions of a reply in words, by the smallest table that has a row for each event in hand: of 2,
@@ -127,7 +127,7 @@ fn commit(
     let emitted = reply.len() / 8;
     let verdict = hand_back_commit::final_check(check, head.next, head.pending, emitted);
     if let Err(refusal) = verdict {
-        return hand_back_end::poison(refusal, head, counters, batch);
+        return hand_back_end::poison(Err(refusal), head, counters, batch);
     }
     let tail = Tail {
         count: head.pending,

@@ -2,6 +2,9 @@
 use mathlib.Core.Path.{◌≡◌, refl, sym, ap, ◌∙◌}
 use mathlib.Core.Bool.{false}
 use mathlib.Core.List.{List, [], ◌∷◌, ◌++◌}
+use Rattle.std.specs.Prelude.{Result, Err}
+use Rattle.std.specs.Result.{IsErrAnd}
+use Rattle.std.proofs.lemmas.Result.{err_from_is_err_and}
 use Prim.Native.Nat.{ℕ, ◌+◌, ◌-◌, ◌*◌, ◌<◌}
 use native.Mathlib.Omega.{arith}
 use Rattle.types.specs.declared.SimDuration.{SimDuration}
@@ -25,7 +28,7 @@ use Rattle.state.specs.declared.Refusal.{Refusal}
 use Rattle.state.specs.View.{view}
 use Rattle.hand_back_check.specs.declared.ReplyCheck.{ReplyCheck}
 use Rattle.hand_back_check.specs.EmissionRows.{last_of, rows_up_to}
-use Rattle.hand_back_check.specs.Checks.{NextResult, ChecksNext, RefusesMalformed, CheckStarted, CheckedTo}
+use Rattle.hand_back_check.specs.Checks.{NextResult, ChecksNext, RefusesMalformed, CheckStarted, CheckedTo, CheckedFrom}
 use Rattle.hand_back_check.proofs.Next.{seated}
 use Rattle.hand_back_check.proofs.Snoc.{last_snoc, ill_snoc, ill_front, remote_snoc, rows_snoc}
 
@@ -76,6 +79,10 @@ module _ (h : Header) (look : ℕ → ℕ → ℕ) (T Z B : List ℕ) (a : Reply
         remote = j.remote ∙ rw t.remote (sym (remote_snoc xs x));
         outcome_is = outcome-more;
       }
+
+-- A check that has stopped before the first emission.
+pub checking_stopped : (h : Header) (look : ℕ → ℕ → ℕ) (T Z B : List ℕ) (s : Result ReplyCheck Refusal) (xs : List Rule.Emission) (x : Refusal) → s ≡ Err x → (r : Result ReplyCheck Refusal) → IsErrAnd r (λ y. y ≡ x) → CheckedFrom h look T Z B s xs r
+checking_stopped h look T Z B s xs x e r i = let p = err_from_is_err_and r i in rw e (p.1 ∙ ap Err p.2)
 
 -- The first i emissions of a reply in words are checked.
 module _ (h : Header) (look : ℕ → ℕ → ℕ) (T Z B : List ℕ) (a : ReplyCheck) (w : List ℕ) (d : CheckStarted h T Z B a) where

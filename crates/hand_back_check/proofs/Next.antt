@@ -3,7 +3,7 @@ use mathlib.Core.Path.{◌≡◌, refl, sym, ap, ◌∙◌}
 use mathlib.Core.Bool.{Bool, true, false, not}
 use mathlib.Core.List.{List, ◌++◌, append-nil}
 use mathlib.Core.Logic.{⊎_elim}
-use Rattle.std.specs.Prelude.{Ok, Err, is_err}
+use Rattle.std.specs.Prelude.{Result, Ok, Err, is_err}
 use Prim.Native.Nat.{ℕ, ◌+◌, ◌*◌, ◌-◌, ◌≤◌, ◌<◌}
 use native.Mathlib.Omega.{arith}
 use lib.Dec.{ltb, eqb}
@@ -29,10 +29,11 @@ use Rattle.reply_words.proofs.Table.{absent, past_end, place_first}
 use Rattle.hand_back_emission.specs.Checks.{CanCheck, ChecksRows, ChecksEmission}
 use Rattle.hand_back_emission.proofs.Checks.{Verdict, checks_same, same_behind, checks_front}
 use Rattle.state.specs.declared.Header.{Header}
+use Rattle.state.specs.declared.Refusal.{Refusal}
 use Rattle.state.specs.declared.Refusal.TheVariants as P
 use Rattle.hand_back_check.specs.declared.ReplyCheck.{ReplyCheck}
 use Rattle.hand_back_check.specs.EmissionRows.{counted, past_failed, rows_of_next}
-use Rattle.hand_back_check.specs.Checks.{Checkable, checked_as, tick_of, NextResult, Checks}
+use Rattle.hand_back_check.specs.Checks.{Checkable, checked_as, tick_of, NextResult, Checks, ChecksFrom}
 
 -- How many are remote.
 module _ (m : ℕ) (e : Emission) (x : Bool) (same : x ≡ eqb (lp_id_of e.destination) (lp_id_of e.source)) where
@@ -64,6 +65,11 @@ passed_is (Err y) x = not_both refl x
 
 pub judgeable : (h : Header) (T Z B : List ℕ) → Checkable h T Z B → CanCheck h Z
 judgeable h T Z B s = record { few = s.few; process_words = s.process_words }
+
+-- A check that has stopped.
+pub check_stopped : (h : Header) (L : ℕ) (T Z B : List ℕ) (a : Result ReplyCheck Refusal) (e : Emission) → is_err a ≡ true → ChecksFrom h L T Z B a e a
+check_stopped h L T Z B (Ok b) e y = not_both y refl
+check_stopped h L T Z B (Err x) e y = refl
 
 module _ (h : Header) (L : ℕ) (T Z B : List ℕ) (a : ReplyCheck) (e : Emission) where
   abbrev q : List Event
@@ -111,7 +117,7 @@ module _ (h : Header) (L : ℕ) (T Z B : List ℕ) (a : ReplyCheck) (e : Emissio
           rw same (s.place_words, s.batch_words, emitter-fits, omega (arith, seat), omega (arith, p.0, s.few_batch))
 
       module _ (m : ℕ) (c : m ≡ counted a.remote (emission_of e)) where
-        next : (v : Verdict) → NextResult h L Z (first_tick q (lp_id_of e.emitter) 0) a e v → (r : ReplyCheck) → r ≡ checked_as a w m v → Checks h L T Z B a e (Ok r)
+        pub next : (v : Verdict) → NextResult h L Z (first_tick q (lp_id_of e.emitter) 0) a e v → (r : ReplyCheck) → r ≡ checked_as a w m v → Checks h L T Z B a e (Ok r)
         next v n r y = rw y (record { same_mask = refl; same_failed = refl; not_malformed = sym ill_is ∙ f; last = same; remote = c; outcome_is = n })
 
         pub check_refused : is_err a.outcome ≡ true → (r : ReplyCheck) → r ≡ checked_as a w m a.outcome → Checks h L T Z B a e (Ok r)

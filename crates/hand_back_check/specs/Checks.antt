@@ -1,5 +1,5 @@
 -- What the check of a reply asks, and how far it has come, in the words of the rules.
-use Rattle.std.specs.Prelude.{◌≡◌, Bool, true, false, List, ◌++◌, ℕ, ◌-◌, ◌≤◌, length, get_or, Option, Result, Ok, MatchResult}
+use Rattle.std.specs.Prelude.{◌≡◌, Bool, true, false, List, ◌++◌, ℕ, ◌-◌, ◌≤◌, length, get_or, Option, Result, Ok, Err, MatchResult}
 use Rattle.types.specs.declared.LpId.{LpId}
 use Rattle.types.specs.Value.{lp_id_of}
 use Rattle.rules.specs.Base.{any, count}
@@ -63,6 +63,13 @@ pub record RefusesMalformed (malformed : Bool) (x : Refusal) : Type 0 where
 abbrev pub Checks : Header → ℕ → List ℕ → List ℕ → List ℕ → ReplyCheck → W.Emission → Result ReplyCheck Refusal → Type 0
 Checks h L T Z B a e r = MatchResult r (ChecksNext h L T Z B a e) (RefusesMalformed (malformed_emission (events_of h.batch B) a.mask a.last (emission_of e)))
 
+-- A check that goes on comes to what P says of it; one that has stopped is given back as it is.
+abbrev pub GoesOn : (ReplyCheck → Result ReplyCheck Refusal → Type 0) → Result ReplyCheck Refusal → Result ReplyCheck Refusal → Type 0
+GoesOn P a r = MatchResult a (λ b. P b r) (λ x. r ≡ Err x)
+
+abbrev pub ChecksFrom : Header → ℕ → List ℕ → List ℕ → List ℕ → Result ReplyCheck Refusal → W.Emission → Result ReplyCheck Refusal → Type 0
+ChecksFrom h L T Z B a e r = GoesOn (λ b v. Checks h L T Z B b e v) a r
+
 -- What a check of a whole reply asks.
 pub record CheckStarted (h : Header) (T Z B : List ℕ) (a : ReplyCheck) : Type 0 where
   pub started : a ≡ start_of a.mask a.failed
@@ -79,3 +86,6 @@ pub record CheckedTo (h : Header) (look : ℕ → ℕ → ℕ) (T Z B : List ℕ
 
 abbrev pub Checked : Header → (ℕ → ℕ → ℕ) → List ℕ → List ℕ → List ℕ → ReplyCheck → List Emission → Result ReplyCheck Refusal → Type 0
 Checked h look T Z B a xs r = MatchResult r (CheckedTo h look T Z B a xs) (RefusesMalformed (any_malformed_emission (events_of h.batch B) a.mask 0 xs))
+
+abbrev pub CheckedFrom : Header → (ℕ → ℕ → ℕ) → List ℕ → List ℕ → List ℕ → Result ReplyCheck Refusal → List Emission → Result ReplyCheck Refusal → Type 0
+CheckedFrom h look T Z B a xs r = GoesOn (λ b v. Checked h look T Z B b xs v) a r

@@ -7,13 +7,13 @@
 
 #![tactic(auto)]
 
-ghost use Rattle.std.specs.Prelude.{◌≡◌, ◌*◌, ◌≤◌, ◌<◌, length, get_or};
+ghost use Rattle.std.specs.Prelude.{◌≡◌, ◌*◌, ◌≤◌, ◌<◌, length, get_or, IfOk};
 ghost use Rattle.types.specs.Value.{ticks_of, duration_of};
 ghost use Rattle.records.specs.Records.{events_of, Owners};
 ghost use Rattle.reply_words.specs.Emissions.{emission_of, emissions_of};
 ghost use Rattle.hand_back_edges.specs.Looks.{look_in_table, CanLook};
 ghost use Rattle.hand_back_check.specs.EmissionRows.{counted, first_failed};
-ghost use Rattle.hand_back_check.specs.Checks.{Checkable, start_of, checked_as, tick_of, Checks, CheckStarted, Checked};
+ghost use Rattle.hand_back_check.specs.Checks.{Checkable, start_of, checked_as, tick_of, ChecksFrom, CheckStarted, CheckedFrom};
 
 use reply_words::Emission;
 use state::{Header, Refusal};
@@ -100,7 +100,8 @@ fn checked(a: ReplyCheck, p: u64, remote: u64, verdict: Result<(), Refusal>) -> 
 }
 
 // 26 of the emission e, then 28 to 33 unless something is refused already or a process before e's
-// failed; `lookahead` is that of the edge that e goes along.
+// failed; `lookahead` is that of the edge that e goes along. A check that has stopped is given back as it
+// is.
 // Kept with each array by itself, not as Lent: it reads no edges, and host_hand_back, which calls it for
 // each record, has these arrays as parts of one.
 pub fn check<'a>(
@@ -109,12 +110,13 @@ pub fn check<'a>(
     places: &'a [u64],
     processes: &'a [u64],
     batch: &'a [u64],
-    a: ReplyCheck,
+    a: Result<ReplyCheck, Refusal>,
     e: Emission,
 ) -> Result<ReplyCheck, Refusal>
-    requires { Checkable head places.now processes.now batch.now }
-    ensures { Checks head (duration_of lookahead) places.now processes.now batch.now a e result }
+    requires { IfOk a (λ _. Checkable head places.now processes.now batch.now) }
+    ensures { ChecksFrom head (duration_of lookahead) places.now processes.now batch.now a e result }
 {
+    let a = a?;
     if reply_words::malformed_emission(e, a.last, a.mask, places) {
         return Err(Refusal::MalformedReply);
     }
@@ -132,20 +134,21 @@ pub fn check<'a>(
     Ok(checked(a, emitter, remote, verdict))
 }
 
-// The emissions of a reply in words, each in turn. Kept with their count beside the words: the clause is
+// The emissions of a reply in words, each in turn; a check that has stopped before the first of them is
+// given back as it is. Kept with their count beside the words: the clause is
 // of the first `count`, whatever `count` is.
 pub fn check_words<'a>(
     lent: Lent<'a>,
     table: &'a [u16],
     places: &'a [u64],
-    start: ReplyCheck,
+    start: Result<ReplyCheck, Refusal>,
     reply: &'a [u64],
     count: usize,
 ) -> Result<ReplyCheck, Refusal>
-    requires { CheckStarted lent.head places.now lent.processes.now lent.batch.now start × CanLook lent.edges.now table.now places.now × (8 * count ≤ length reply.now) }
-    ensures { Checked lent.entry.head (look_in_table lent.entry.edges.now table.now places.now) places.now lent.entry.processes.now lent.entry.batch.now start (emissions_of count reply.now) result }
+    requires { IfOk start (λ a. CheckStarted lent.head places.now lent.processes.now lent.batch.now a) × CanLook lent.edges.now table.now places.now × (8 * count ≤ length reply.now) }
+    ensures { CheckedFrom lent.entry.head (look_in_table lent.entry.edges.now table.now places.now) places.now lent.entry.processes.now lent.entry.batch.now start (emissions_of count reply.now) result }
 {
-    let mut a = start;
+    let mut a = start?;
     for i in 0..count {
         let e = reply_words::emission_in(reply, 8 * i);
         let lookahead = hand_back_edges::lookahead_of(lent.edges, table, places, e);
@@ -155,7 +158,7 @@ pub fn check_words<'a>(
             places,
             lent.processes,
             lent.batch,
-            a,
+            Ok(a),
             e,
         )?;
     }

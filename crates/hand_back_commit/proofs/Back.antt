@@ -105,7 +105,7 @@ module _ (h : Header) (c : Counters) (E Q Z B : List ℕ) (mask : ℕ) (xs : Lis
               ap (λ (o : Out). leaves_state_as_given o.answer) (sym (refused d))
               ∙ lost_moves (view h E Q Z B) (view h E Q Z B) (counters_of c) mask xs (events_of h.batch B) d (committed_moves 0)
 
-          pub back_lost : (r : CoreResult) (B' : List ℕ) → Poisons x h c r → HandsBack h c E Q Z B mask xs r Q Z B'
+          pub back_lost : (r : CoreResult) (B' : List ℕ) → Poisons (Err x) h c r → HandsBack h c E Q Z B mask xs r Q Z B'
           unfolding tab
           back_lost r B' d = rw d (record {
             gives = sym (judged (view h E Q Z B) (counters_of c) mask xs l.passes p held e ∙ refused (settled (view h E Q Z B) (counters_of c) xs));

@@ -82,7 +82,7 @@ module _ (h : Header) (c : Counters) (E Q Z B : List ℕ) (a : ReplyCheck) (k : 
   judges : (v : Verdict) → Word a v → (mask : ℕ) (xs : List Emission) → ReplyChecked h E Q Z B a mask k xs → ChecksRows (process_rows (view h E Q Z B) mask xs (events_of h.batch B)) v
   judges v w mask xs t = checks_same _ _ v (rows_alike (view h E Q Z B) mask (events_of h.batch B) xs (well_formed _ mask xs (batch_order h E Q Z B l.passes) t.not_malformed) (well _ mask xs t.not_malformed)) (rw t.failed_is at (w.decides _ t.outcome_is))
 
-  finish_lost : (x : Refusal) → Word a (Err x) → (r : CoreResult) (B' : List ℕ) → Poisons x h c r → Finishes h c E Q Z B a k r Q Z B'
+  finish_lost : (x : Refusal) → Word a (Err x) → (r : CoreResult) (B' : List ℕ) → Poisons (Err x) h c r → Finishes h c E Q Z B a k r Q Z B'
   unfolding Finishes
   finish_lost x w r B' d mask xs t = back_lost h c E Q Z B mask xs l g.healthy none t.not_malformed x (judges (Err x) w mask xs t) r B' d
 
@@ -90,12 +90,12 @@ module _ (h : Header) (c : Counters) (E Q Z B : List ℕ) (a : ReplyCheck) (k : 
     on : (mask : ℕ) (xs : List Emission) → ReplyChecked h E Q Z B a mask k xs → (r : CoreResult) (Q' Z' B' : List ℕ) → Settles h c E Q Z B xs r Q' Z' B' → HandsBack h c E Q Z B mask xs r Q' Z' B'
     on mask xs t = back_settled h c E Q Z B mask xs l g.healthy none t.not_malformed (judges (Ok tt) w mask xs t)
 
-    finish_late : (r : CoreResult) (B' : List ℕ) → max_count < h.next + k → Poisons P.EventSequenceOverflow h c r → Finishes h c E Q Z B a k r Q Z B'
+    finish_late : (r : CoreResult) (B' : List ℕ) → max_count < h.next + k → Poisons (Err P.EventSequenceOverflow) h c r → Finishes h c E Q Z B a k r Q Z B'
     unfolding Finishes
     finish_late r B' y d mask xs t = on mask xs t r Q Z B' (S.settle_late h c E Q Z B xs k t.number l g.in_hand_holds r B' y d)
 
     module _ (y : h.next + k ≤ 18446744073709551615) where
-      finish-full : (r : CoreResult) (B' : List ℕ) → max_pending < h.pending + k → Poisons P.QueueFull h c r → Finishes h c E Q Z B a k r Q Z B'
+      finish-full : (r : CoreResult) (B' : List ℕ) → max_pending < h.pending + k → Poisons (Err P.QueueFull) h c r → Finishes h c E Q Z B a k r Q Z B'
       unfolding Finishes
       finish-full r B' z d mask xs t = on mask xs t r Q Z B' (S.settle_full h c E Q Z B xs k t.number l g.in_hand_holds y r B' z d)
 

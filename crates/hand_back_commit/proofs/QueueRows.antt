@@ -2,6 +2,7 @@
 use mathlib.Core.Path.{◌≡◌, refl, sym, ap, subst, ◌∙◌}
 use mathlib.Core.Bool.{true, false}
 use mathlib.Core.List.{List, [], ◌∷◌}
+use Rattle.std.specs.Prelude.{Err}
 use Prim.Native.Nat.{ℕ, ◌+◌, ◌≤◌, ◌<◌}
 use native.Mathlib.Omega.{arith}
 use lib.Dec.{ltb}
@@ -67,7 +68,7 @@ module _ (s : State) (c : R.Counters) (xs : List Emission) where
 
 -- A reply of the k emissions xs, with a batch in hand in a state that 11 let pass.
 module _ (h : Header) (c : Counters) (E Q Z B : List ℕ) (xs : List Emission) (k : ℕ) (n : length xs ≡ k) (m : ValidArrays h E Q Z B) (hand : 0 < h.batch) where
-  pub settle_late : (r : CoreResult) (B' : List ℕ) → max_count < h.next + k → Poisons P.EventSequenceOverflow h c r → Settles h c E Q Z B xs r Q Z B'
+  pub settle_late : (r : CoreResult) (B' : List ℕ) → max_count < h.next + k → Poisons (Err P.EventSequenceOverflow) h c r → Settles h c E Q Z B xs r Q Z B'
   unfolding tab
   settle_late r B' l e = rw e (record { gives = λ _. sym (row_19 (view h E Q Z B) (counters_of c) xs (lt-ltb max_count (h.next + length xs) (omega (arith, n)))); moves = λ es. overflow_moves })
 
@@ -78,7 +79,7 @@ module _ (h : Header) (c : Counters) (E Q Z B : List ℕ) (xs : List Emission) (
     few : h.pending ≤ 512
     few = few_pending h E Q Z B m.passes
 
-    pub settle_full : (r : CoreResult) (B' : List ℕ) → max_pending < h.pending + k → Poisons P.QueueFull h c r → Settles h c E Q Z B xs r Q Z B'
+    pub settle_full : (r : CoreResult) (B' : List ℕ) → max_pending < h.pending + k → Poisons (Err P.QueueFull) h c r → Settles h c E Q Z B xs r Q Z B'
     unfolding tab
     settle_full r B' l e =
         rw e (record {

@@ -59,7 +59,7 @@ pub record Passes (a : ReplyCheck) : Type 0 where
 -- The round is lost with the refusal x.
 abbrev pub LosesRound : ReplyCheck → ℕ → ℕ → ℕ → Refusal → Type 0
 LosesRound a next pending k x = (h : Header) (c : Counters) (edges pend processes batch : List ℕ) (r : CoreResult) (batch' : List ℕ) → h.next ≡ next → h.pending ≡ pending
-    → InHand h edges pend processes batch → Poisons x h c r → Finishes h c edges pend processes batch a k r pend processes batch'
+    → InHand h edges pend processes batch → Poisons (Err x) h c r → Finishes h c edges pend processes batch a k r pend processes batch'
 
 -- The check v with 27, 19 and 18 behind the rows that a's is of: where it refuses, the round is lost with its refusal.
 abbrev pub FinalCheck : ReplyCheck → ℕ → ℕ → ℕ → Result (Unit {0}) Refusal → Type 0

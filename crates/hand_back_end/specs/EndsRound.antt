@@ -1,5 +1,5 @@
 -- What the end of hand back asks and leaves, in the words of the rules.
-use Rattle.std.specs.Prelude.{◌≡◌, false, List, ℕ, ◌*◌, ◌^◌, ◌-◌, ◌≤◌, ◌<◌, length, Err}
+use Rattle.std.specs.Prelude.{◌≡◌, false, List, ℕ, ◌*◌, ◌^◌, ◌-◌, ◌≤◌, ◌<◌, length, Result}
 use Rattle.types.specs.Value.{ticks_of}
 use Rattle.records.specs.Records.{events_of}
 use Rattle.rules.specs.Base.{if◌then◌otherwise◌, count}
@@ -13,6 +13,7 @@ use Rattle.rules.specs.HandBack.{Emission, is_remote, count_round}
 use Rattle.rules.proofs.Shape.{Queued}
 use Rattle.state.specs.declared.Header.{Header}
 use Rattle.state.specs.declared.Counters.{Counters}
+use Rattle.state.specs.declared.Answer.{Answer}
 use Rattle.state.specs.declared.Refusal.{Refusal}
 use Rattle.state.specs.declared.CoreResult.{CoreResult}
 use Rattle.state.specs.View.{view, counters_of, answer_of}
@@ -24,9 +25,9 @@ use Rattle.step_advance.specs.Advances.{FirstTicksOf}
 unfoldable pub CountsRound : Counters → ℕ → ℕ → ℕ → Counters → Type 0
 CountsRound c handled emitted remote r = (es : List Event) (xs : List Emission) → length es ≡ handled → length xs ≡ emitted → count is_remote xs ≡ remote → counters_of r ≡ count_round (counters_of c) es xs
 
--- The refusal, with nothing in hand and poisoned set. Which words the batch's are then does not matter: the view has none of them.
-abbrev pub Poisons : Refusal → Header → Counters → CoreResult → Type 0
-Poisons x h c r = r ≡ record { answer = Err x; head = poisoned_header h; counters = c }
+-- The answer, with nothing in hand and poisoned set. Which words the batch's are then does not matter: the view has none of them.
+abbrev pub Poisons : Result Answer Refusal → Header → Counters → CoreResult → Type 0
+Poisons a h c r = r ≡ record { answer = a; head = poisoned_header h; counters = c }
 
 -- The end of the rules' `commit`, of a state t in which the round is done.
 unfoldable pub round_ended : State → R.Counters → ℕ → ℕ → Out

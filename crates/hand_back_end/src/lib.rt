@@ -38,14 +38,19 @@ fn poisoned_header(head: Header) -> Header
     }
 }
 
-// "'Poisoned' in the last column" of a refusal. Freed places are zero.
-pub fn poison(refusal: Refusal, head: Header, counters: Counters, batch: &mut [u64]) -> CoreResult
+// "'Poisoned' in the last column" of a refusal, or of any other answer. Freed places are zero.
+pub fn poison(
+    answer: Result<Answer, Refusal>,
+    head: Header,
+    counters: Counters,
+    batch: &mut [u64],
+) -> CoreResult
     requires { 8 * head.batch ≤ length batch.old }
-    ensures { Poisons refusal head counters result }
+    ensures { Poisons answer head counters result }
 {
     words::clear(batch, 0, 8 * head.batch);
     CoreResult {
-        answer: Err(refusal),
+        answer: answer,
         head: poisoned_header(head),
         counters: counters,
     }

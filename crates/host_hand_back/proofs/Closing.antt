@@ -57,7 +57,7 @@ given_back_from s mask D (Ok a) w ys x t c = carries_back s c (as_given_to s.hea
 given_back_from s mask D (Err y) w ys x t c = rw (same_err x y t) (w (reply_of ys) c)
 
 -- It went on to the last emission, and a says how far it came.
-record Passed (s : Runtime) (mask : ℕ) (ys : List Emission) (a : ReplyCheck) : Type 0 where
+pub record Passed (s : Runtime) (mask : ℕ) (ys : List Emission) (a : ReplyCheck) : Type 0 where
   pub lent : ValidArrays s.head s.edges s.pending s.processes s.batch
   pub passes : LetsPass s.head s.edges s.processes s.batch mask (reply_of ys) a
 
@@ -66,7 +66,7 @@ passed_from s mask D (Ok b) w ys a t = record { lent = w.lent; passes = checks_r
 passed_from s mask D (Err y) w ys a t = absurd cc
 
 module _ (s : Runtime) (mask : ℕ) (ys : List Emission) (a : ReplyCheck) (v : Passed s mask ys a) where
-  in_hand_holds : InHand s.head s.edges s.pending s.processes s.batch
+  pub in_hand_holds : InHand s.head s.edges s.pending s.processes s.batch
   in_hand_holds = let p = v.passes.passed in record { lent = v.lent; healthy = p.healthy; in_hand_holds = omega (arith, p.in_hand_holds) }
 
   module _ (k : ℕ) (e : length ys ≡ k) where
@@ -86,7 +86,7 @@ module _ (s : Runtime) (mask : ℕ) (ys : List Emission) (a : ReplyCheck) (v : P
 
     -- The second pass went over them too, and left the pending words u.
     module _ (u : List ℕ) (c : Counters) (r : CallResult) where
-      committed : FinalCheck a s.head.next s.head.pending k (Ok tt) → (t : Tail) → Enqueued (tail_of s.head) (reply_of ys) s.pending t u → CommitsTo (with_pending s u) c a k r → Executes (HandBack mask (reply_of ys)) s c r.answer r.state r.counters
+      pub committed : FinalCheck a s.head.next s.head.pending k (Ok tt) → (t : Tail) → Enqueued (tail_of s.head) (reply_of ys) s.pending t u → CommitsTo (with_pending s u) c a k r → Executes (HandBack mask (reply_of ys)) s c r.answer r.state r.counters
       unfolding Ends
       committed f t q m =
           let n : length (reply_of ys) ≡ k = length-map ys emission_of ∙ e in
@@ -94,7 +94,7 @@ module _ (s : Runtime) (mask : ℕ) (ys : List Emission) (a : ReplyCheck) (v : P
           subst (λ (i : Runtime). Executes (HandBack mask (reply_of ys)) s c r.answer i r.counters) (sym m.left)
           (carries_back s c (after_of r) u r.state.processes r.state.batch mask (reply_of ys) (m.ends s.edges s.pending a in_hand_holds f.0 refl mask (reply_of ys) reply_checked l))
 
-      poisoned : (x : Refusal) → FinalCheck a s.head.next s.head.pending k (Err x) → u ≡ s.pending → PoisonsTo (with_pending s u) c x r → Executes (HandBack mask (reply_of ys)) s c r.answer r.state r.counters
+      pub poisoned : (x : Refusal) → FinalCheck a s.head.next s.head.pending k (Err x) → u ≡ s.pending → PoisonsTo (with_pending s u) c x r → Executes (HandBack mask (reply_of ys)) s c r.answer r.state r.counters
       unfolding Finishes
       poisoned x f q m =
           subst (λ (i : Runtime). Executes (HandBack mask (reply_of ys)) s c r.answer i r.counters) (sym (m.left ∙ ap (λ (p : List ℕ). record { edges = s.edges; pending = p; processes = s.processes; batch = r.state.batch; head = r.state.head }) q))

@@ -69,7 +69,7 @@ module _ (R T Z B : List ℕ) (s : Sizes R T Z B) where
 
 -- The lookaheads in the first words of a table.
 module _ (w : List ℕ) (a b : ℕ) (l : a < 64) where
-  front : (k : ℕ) → k < 8192 → get_or (take 8192 w) k 0 ≡ get_or w k 0
+  pub front : (k : ℕ) → k < 8192 → get_or (take 8192 w) k 0 ≡ get_or w k 0
   front k h = get_or-take 8192 w k 0 h
 
   look_front : lookahead_in (take 8192 w) a b ≡ lookahead_in w a b

@@ -1,3 +1,4 @@
 pub mod Filling
 pub mod Opening
+pub mod Passing
 pub mod Closing

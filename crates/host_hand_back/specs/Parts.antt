@@ -80,7 +80,7 @@ pub record CommitsTo (s : Runtime) (c : Counters) (a : ReplyCheck) (k : ℕ) (r 
 -- The round is lost with the refusal x.
 pub record PoisonsTo (s : Runtime) (c : Counters) (x : Refusal) (r : CallResult) : Type 0 where
   pub left : r.state ≡ record { edges = s.edges; pending = s.pending; processes = s.processes; batch = r.state.batch; head = r.state.head }
-  pub poisons : Poisons x s.head c (after_of r)
+  pub poisons : Poisons (Err x) s.head c (after_of r)
 
 -- The runtime s with the pending words Q.
 abbrev pub with_pending : Runtime → List ℕ → Runtime

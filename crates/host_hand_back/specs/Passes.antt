@@ -6,10 +6,10 @@ use Rattle.reply_words.specs.declared.Emission.{Emission}
 use Rattle.reply_words.specs.Emissions.{emission_of}
 use Rattle.hand_back_edges.specs.Lookaheads.{lookahead_in}
 use Rattle.hand_back_enqueue.specs.declared.Tail.{Tail}
-use Rattle.hand_back_enqueue.specs.Enqueued.{Enqueueable, Enqueued}
+use Rattle.hand_back_enqueue.specs.Enqueued.{Enqueueable, Enqueued, Enqueues}
 use Rattle.hand_back_check.specs.declared.ReplyCheck.{ReplyCheck}
 use Rattle.hand_back_check.specs.Checks as Check
-use Rattle.hand_back_check.specs.Checks.{Checks, CheckStarted, Checked}
+use Rattle.hand_back_check.specs.Checks.{ChecksFrom, CheckStarted, CheckedFrom}
 use Rattle.state.specs.declared.Header.{Header}
 use Rattle.state.specs.declared.Refusal.{Refusal}
 
@@ -47,19 +47,27 @@ look_of D = lookahead_in (lookaheads_in D)
 abbrev pub Checkable : List ℕ → Header → Type 0
 Checkable D h = Check.Checkable h (places_in D) (processes_in D) (batch_in D)
 
-abbrev pub ChecksNext : List ℕ → Header → ReplyCheck → Emission → Result ReplyCheck Refusal → Type 0
-ChecksNext D h a e r = Checks h (look_of D (lp_id_of e.emitter) (lp_id_of e.destination)) (places_in D) (processes_in D) (batch_in D) a e r
+abbrev pub ChecksNext : List ℕ → Header → Result ReplyCheck Refusal → Emission → Result ReplyCheck Refusal → Type 0
+ChecksNext D h a e r = ChecksFrom h (look_of D (lp_id_of e.emitter) (lp_id_of e.destination)) (places_in D) (processes_in D) (batch_in D) a e r
 
 -- The same of all emissions. A reply that is refused before the first of them stays so.
 abbrev pub Begun : List ℕ → Header → Result ReplyCheck Refusal → Type 0
 Begun D h s = IfOk s (λ a. CheckStarted h (places_in D) (processes_in D) (batch_in D) a)
 
 abbrev pub Scanned : List ℕ → Header → Result ReplyCheck Refusal → List Emission → Result ReplyCheck Refusal → Type 0
-Scanned D h s ys r = MatchResult s (λ a. Checked h (look_of D) (places_in D) (processes_in D) (batch_in D) a (reply_of ys) r) (λ x. r ≡ Err x)
+Scanned D h s ys r = CheckedFrom h (look_of D) (places_in D) (processes_in D) (batch_in D) s (reply_of ys) r
 
--- What queueing all emissions asks of the pending words, and what it leaves: the words as they were, where the round is not admitted.
+-- Emissions are queued as P says, from one tail to the next, where the round is admitted; where it is not, the pending words u are as they were.
+abbrev pub IfAdmitted : (Tail → Tail → Type 0) → List ℕ → Result Tail Refusal → List ℕ → Result Tail Refusal → Type 0
+IfAdmitted P w p u r = MatchResult p (λ t. IsOkAnd r (P t)) (λ x. (r ≡ Err x) × (u ≡ w))
+
+-- What queueing an emission leaves.
+abbrev pub EnqueuesNext : List ℕ → Result Tail Refusal → Emission → List ℕ → Result Tail Refusal → Type 0
+EnqueuesNext w p e u r = IfAdmitted (λ t v. Enqueues t (emission_of e) w v u) w p u r
+
+-- What queueing all emissions asks of the pending words, and what it leaves.
 abbrev pub Admitted : List ℕ → Result Tail Refusal → List Emission → Type 0
 Admitted w p ys = IfOk p (λ t. Enqueueable t (length ys) w)
 
 abbrev pub Queued : List ℕ → Result Tail Refusal → List Emission → List ℕ → Result Tail Refusal → Type 0
-Queued w p ys u r = MatchResult p (λ t. IsOkAnd r (λ v. Enqueued t (reply_of ys) w v u)) (λ x. (r ≡ Err x) × (u ≡ w))
+Queued w p ys u r = IfAdmitted (λ t v. Enqueued t (reply_of ys) w v u) w p u r

@@ -3,13 +3,12 @@
 
 #![tactic(auto)]
 
-ghost use Rattle.std.specs.Prelude.{◌≡◌, ◌*◌, ◌≤◌, length, take};
+ghost use Rattle.std.specs.Prelude.{◌≡◌, ◌*◌, ◌≤◌, length, take, IfOk};
 ghost use Rattle.words.specs.Words.{zeroes};
-ghost use Rattle.reply_words.specs.Emissions.{emission_of};
-ghost use Rattle.hand_back_enqueue.specs.Enqueued.{Enqueueable, Enqueues};
+ghost use Rattle.hand_back_enqueue.specs.Enqueued.{Enqueueable};
 ghost use Rattle.hand_back_commit.specs.Commits.{CanEnd};
 ghost use Rattle.hand_back.specs.ReplyChecks.{Ready};
-ghost use Rattle.host_hand_back.specs.Passes.{tables_of, Checkable, ChecksNext};
+ghost use Rattle.host_hand_back.specs.Passes.{tables_of, Checkable, ChecksNext, EnqueuesNext};
 ghost use Rattle.host_hand_back.specs.Parts.{Tabled, OpensFrom, Opens, AdmissionOf, given_back, CommitsTo, PoisonsTo, Closable, Closes};
 
 use hand_back_check::ReplyCheck;
@@ -79,14 +78,14 @@ pub fn open(state: Runtime, mask: u64) -> Opened
     Opened { words, check }
 }
 
-// One emission of the first pass.
+// One emission of the first pass. A check that has stopped is given back as it is.
 pub fn check_next(
     words: &[u64; 9024],
     head: Header,
-    a: ReplyCheck,
+    a: Result<ReplyCheck, Refusal>,
     e: Emission,
 ) -> Result<ReplyCheck, Refusal>
-    requires { Checkable words.now head }
+    requires { IfOk a (λ _. Checkable words.now head) }
     ensures { ChecksNext words.now head a e result }
 {
     let lookaheads = &words[0..8192];
@@ -113,12 +112,17 @@ pub fn admit(
     })
 }
 
-// One emission of the second pass, for a round that is admitted.
-pub fn enqueue_next(words: &mut [u64; 4096], tail: Tail, e: Emission) -> Tail
-    requires { Enqueueable tail 1 words.old }
-    ensures { Enqueues tail (emission_of e) words.old result words.new }
+// One emission of the second pass; nothing is queued of a round that is not admitted.
+pub fn enqueue_next(
+    words: &mut [u64; 4096],
+    tail: Result<Tail, Refusal>,
+    e: Emission,
+) -> Result<Tail, Refusal>
+    requires { IfOk tail (λ t. Enqueueable t 1 words.old) }
+    ensures { EnqueuesNext words.old tail e words.new result }
 {
-    hand_back_enqueue::enqueue(words, tail, e)
+    let tail = tail?;
+    Ok(hand_back_enqueue::enqueue(words, tail, e))
 }
 
 // The refusals that leave the state as given.
@@ -159,7 +163,7 @@ fn poison(mut state: Runtime, counters: Counters, refusal: Refusal) -> CallResul
     requires { 8 * state.head.batch ≤ length state.batch }
     ensures { PoisonsTo state counters refusal result }
 {
-    let lost = hand_back_end::poison(refusal, state.head, counters, &mut state.batch);
+    let lost = hand_back_end::poison(Err(refusal), state.head, counters, &mut state.batch);
     state.head = lost.head;
     CallResult {
         answer: lost.answer,

@@ -22,7 +22,7 @@ pub fn check_records(
 {
     let mut a = start?;
     for e in reply {
-        a = host_hand_back::check_next(words, head, a, *e)?;
+        a = host_hand_back::check_next(words, head, Ok(a), *e)?;
     }
     Ok(a)
 }
@@ -39,7 +39,7 @@ pub fn enqueue_records(
 {
     let mut tail = admission?;
     for e in reply {
-        tail = host_hand_back::enqueue_next(words, tail, *e);
+        tail = host_hand_back::enqueue_next(words, Ok(tail), *e)?;
     }
     Ok(tail)
 }

@@ -8,11 +8,14 @@ returns-in_err-tail c = queued_refused _ _ _ _ c.in_err-tail.was _ c.from_residu
 pub loop-e-init : goal.loop-e-init
 loop-e-init c = none_queued _ _ c.args.reply.now _ c.in_ok-tail.was
 
-pub enqueue_next-tail-requires : goal.enqueue_next-tail-requires
-enqueue_next-tail-requires c = ready_at _ _ _ _ c.in_ok-tail.was _ _ _ c.loop-e.invariant c.requires c.loop-e-test.true
+pub enqueue_next-requires : goal.enqueue_next-requires
+enqueue_next-requires c = ready_at _ _ _ _ c.in_ok-tail.was _ _ _ c.loop-e.invariant c.requires c.loop-e-test.true
+
+pub returns-in_err-tail-2 : goal.returns-in_err-tail-2
+returns-in_err-tail-2 c = absurd c.in_err-tail-2.ensures
 
 pub loop-e-preserved : goal.loop-e-preserved
-loop-e-preserved c = queued_next _ _ _ _ c.in_ok-tail.was _ _ _ c.loop-e.invariant c.loop-e-test.true _ _ c.enqueue_next-tail.ensures
+loop-e-preserved c = queued_next _ _ _ _ c.in_ok-tail.was _ _ _ c.loop-e.invariant c.loop-e-test.true _ _ c.in_ok-tail-2.ensures
 
 pub returns : goal.returns
 returns c = queued_whole _ _ _ _ c.in_ok-tail.was _ _ _ c.loop-e.invariant (omega arith)
