@@ -99,7 +99,9 @@ fn put_bytes(out: &mut Gathered, word: u64, count: usize) {
 
 fn put_payload(out: &mut Gathered, len: usize, p0: u64, p1: u64) {
     put_bytes(out, p0, len);
-    put_bytes(out, p1, len.saturating_sub(8));
+    if 8 < len {
+        put_bytes(out, p1, len - 8);
+    }
 }
 
 // The things of lists, each behind a space.
@@ -215,7 +217,8 @@ fn put_stored(out: &mut Gathered, head: &Header) {
         put_tick(out, head.horizon);
         put_number(out, head.budget);
     } else {
-        out.put(b" -");
+        out.put_byte(b' ');
+        out.put_byte(b'-');
     }
 }
 
@@ -223,12 +226,16 @@ fn digit(flag: bool) -> u8 {
     b'0' + u8::from(flag)
 }
 
+// The flags are put at once, so that no write ends between them.
 fn put_flags(out: &mut Gathered, head: &Header) {
+    let flags = [
+        b' ',
+        digit(head.initial),
+        digit(head.running),
+        digit(head.poisoned),
+    ];
     put_bar(out);
-    out.put_byte(b' ');
-    out.put_byte(digit(head.initial));
-    out.put_byte(digit(head.running));
-    out.put_byte(digit(head.poisoned));
+    out.put(&flags);
 }
 
 // The local horizons of the processes, then their least inbound bounds: the halves of their table.

@@ -162,10 +162,10 @@ pub fn values_of(answer: Result<Answer, Refusal>) -> Values
 pub fn read_number(answer: Result<Reading, Refusal>) -> u64
     ensures { result ≡ of_read.number_of answer }
 {
-    match answer {
-        Ok(_) => 0,
-        Err(refusal) => number_for(refusal),
-    }
+    let Err(refusal) = answer else {
+        return 0;
+    };
+    number_for(refusal)
 }
 
 pub fn read_values(answer: Result<Reading, Refusal>) -> Values

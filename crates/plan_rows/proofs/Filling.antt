@@ -30,6 +30,10 @@ pub rising_answer : (xs : List ℕ) (r : Bool) → IsAllAdjacentAnswer (λ x y b
 rising_answer xs true h = sym (rising_all xs (λ k l. rw add-one at (sym (h k 0 (rw add-one l)))))
 rising_answer xs false (k, l, h) = sym (rising_stops xs k (rw add-one at l) (rw add-one at (sym (h 0))))
 
+-- The same of a list that is the one asked about.
+pub rising_answer_of : (xs ys : List ℕ) (r : Bool) → IsAllAdjacentAnswer (λ x y b. b ≡ leb x y) ys r → ys ≡ xs → r ≡ rising leb xs
+rising_answer_of xs ys r h e = rising_answer ys r h ∙ ap (rising leb) e
+
 -- A number stored behind the first i.
 pub one_behind : (w xs : List ℕ) (i v : ℕ) → i < length w → take i w ≡ xs → take (i + 1) (set w i v) ≡ xs ++ (v ∷ [])
 one_behind w xs i v h e = rw (add-one, take-suc-set w i v h, e)

@@ -48,7 +48,7 @@ fn skip_plan() -> Option<()> {
     skip_items(2)
 }
 
-// A hand back: whether it failed, and the emissions.
+// A hand back: the mask of failed processes, and the emissions.
 fn skip_hand_back() -> Option<()> {
     text_input::skip_words(STDIN_FILENO, 1)?;
     skip_items(8)

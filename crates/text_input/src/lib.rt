@@ -97,5 +97,10 @@ pub fn skip_words(fd: i32, count: u64) -> Option<()> {
     for _ in 0..blocks {
         skip_block(fd, BLOCK)?;
     }
-    skip_block(fd, count as usize % BLOCK)
+    // A block costs its room, even one of no words.
+    let rest = count as usize % BLOCK;
+    if rest == 0 {
+        return Some(());
+    }
+    skip_block(fd, rest)
 }
