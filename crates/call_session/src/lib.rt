@@ -55,10 +55,11 @@ fn execute_next<F: Face>(s: Session, words: &mut [u64; CALL_WORDS]) -> Option<Se
     Some(execute::<F>(s, &words[..end]))
 }
 
-// A number of calls, and the calls, where all could be decoded.
+// A number of calls, and the calls, where all could be decoded. An array that is made behind a `?` is
+// zeroed twice.
 fn execute_calls<F: Face>(mut s: Session) -> Option<()> {
-    let count = text_input::read_word(STDIN_FILENO)?;
     let mut words = [0u64; CALL_WORDS];
+    let count = text_input::read_word(STDIN_FILENO)?;
     for _ in 0..count {
         s = execute_next::<F>(s, &mut words)?;
     }
@@ -103,16 +104,17 @@ fn read_rows(sources: &mut [u32; PLACES], counts: &mut [u64; PLACES]) -> Option<
     Some(count)
 }
 
-// A list that begins with a build: its ids, rows, destinations and lookaheads.
+// A list that begins with a build: its ids, rows, destinations and lookaheads. The arrays are all made
+// before the first `?`, as in execute_calls.
 fn execute_build<F: Face>(n: u64, lookahead: SimDuration) -> Option<()> {
     let mut ids = [0u32; PLACES];
-    let id_count = read_ids(&mut ids)?;
     let mut sources = [0u32; PLACES];
     let mut counts = [0u64; PLACES];
-    let row_count = read_rows(&mut sources, &mut counts)?;
     let mut destinations = [0u32; PLACES];
-    let edge_count = read_ids(&mut destinations)?;
     let mut lookaheads = [0u64; LOOKAHEAD_WORDS];
+    let id_count = read_ids(&mut ids)?;
+    let row_count = read_rows(&mut sources, &mut counts)?;
+    let edge_count = read_ids(&mut destinations)?;
     let word_count = call_input::read_array(&mut lookaheads)?;
     let rows = Rows {
         sources: &sources[..row_count],

@@ -59,7 +59,8 @@ fn make_runtime(n: u64, lookahead: SimDuration, rows: Rows<'_>) -> Runtime
 // Build takes n, L, the process ids and the rows: their sources, how many destinations each takes, and
 // the lists from which the rows take their destinations and these their lookaheads in turn, two words
 // each, the upper half first. A refused build makes nothing: its state has no processes, so that every
-// later call refuses it with 11.
+// later call refuses it with 11. Kept as an early return: of a match on what the check says, either arm
+// zeroed and copied a state more.
 pub fn build(
     n: u64,
     lookahead: SimDuration,
@@ -69,17 +70,17 @@ pub fn build(
 ) -> BuildResult
     ensures { Builds (setup n (duration_of lookahead) ids.now rows.entry.sources.now rows.entry.counts.now rows.entry.destinations.now (lookaheads_for rows.entry.destinations.now rows.entry.lookaheads.now)) counters result }
 {
-    match build::check(n, lookahead, ids, rows) {
-        Ok(()) => BuildResult {
-            answer: Ok(()),
-            state: make_runtime(n, lookahead, rows),
-            counters: state::zero_counters(),
-        },
-        Err(refusal) => BuildResult {
+    if let Err(refusal) = build::check(n, lookahead, ids, rows) {
+        return BuildResult {
             answer: Err(refusal),
             state: build::empty_runtime(),
             counters,
-        },
+        };
+    }
+    BuildResult {
+        answer: Ok(()),
+        state: make_runtime(n, lookahead, rows),
+        counters: state::zero_counters(),
     }
 }
 
