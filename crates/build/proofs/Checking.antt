@@ -102,14 +102,14 @@ module _ (n L : ℕ) (ids : List ℕ) (z : Bool) (w : z ≡ (eqb n 0 || ltb 64 n
         unfolding checked_ids
         mismatch h = record { of_setup = λ ss cs ds ls. rw g (sym (row-4 n L ids ss cs ds ls a d e (rw g at h))) }
 
-        some_missing : (f.missing ≡ 0 → ⊥) → ChecksProcesses n L ids (Err (P.ProcessSetMismatch f.missing f.unexpected))
+        pub some_missing : (f.missing ≡ 0 → ⊥) → ChecksProcesses n L ids (Err (P.ProcessSetMismatch f.missing f.unexpected))
         some_missing h = mismatch (rw (lt-ltb 0 f.missing (omega arith)))
 
         module _ (i : f.missing ≡ 0) where
           none_missing : ltb 0 f.missing ≡ false
           none_missing = le-ltb 0 f.missing (omega arith)
 
-          some_unexpected : (f.unexpected ≡ 0 → ⊥) → ChecksProcesses n L ids (Err (P.ProcessSetMismatch f.missing f.unexpected))
+          pub some_unexpected : (f.unexpected ≡ 0 → ⊥) → ChecksProcesses n L ids (Err (P.ProcessSetMismatch f.missing f.unexpected))
           some_unexpected h = mismatch (rw none_missing (lt-ltb 0 f.unexpected (omega arith)))
 
           pub exactly : f.unexpected ≡ 0 → ChecksProcesses n L ids (Ok tt)
@@ -147,7 +147,7 @@ module _ (n : ℕ) (sources counts ds ws : List ℕ) (x : Bool) (y : RowsWellFor
 
       -- Where each has its row, what the check of the rows answers is what build does.
       module _ (e : w ≡ None) (v : Checked) (h : refusal_of v ≡ first_refusal (topology_rows n sources counts (targets_for ds ws))) where
-        rows_checked : (r : Built) → answer_of r ≡ answer_for (refusal_of v) → ChecksTopology n sources counts ds ws r
+        pub rows_checked : (r : Built) → answer_of r ≡ answer_for (refusal_of v) → ChecksTopology n sources counts ds ws r
         rows_checked r k = judged r (k ∙ ap answer_for h ∙ answer_decided (topology_rows n sources counts (targets_for ds ws)) ∙ ap left (sym (ap missing_row_of e) ∙ g))
 
         pub rows_passed : v ≡ Ok tt → ChecksTopology n sources counts ds ws (Ok tt)

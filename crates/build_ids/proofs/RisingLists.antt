@@ -27,7 +27,7 @@ rising_all [] h = refl
 rising_all (x ∷ []) h = refl
 rising_all (x ∷ y ∷ ys) h = rw (h 0 (omega arith)) (rising_all (y ∷ ys) (λ k l. h (suc k) (omega arith)))
 
-rising_stops : (xs : List ℕ) (k : ℕ) → suc k < length xs → ltb (get_or xs k 0) (get_or xs (suc k) 0) ≡ false → rising ltb xs ≡ false
+pub rising_stops : (xs : List ℕ) (k : ℕ) → suc k < length xs → ltb (get_or xs k 0) (get_or xs (suc k) 0) ≡ false → rising ltb xs ≡ false
 unfolding rising
 rising_stops [] k l h = absurd (omega arith)
 rising_stops (x ∷ []) k l h = absurd (omega arith)

@@ -56,10 +56,10 @@ module _ (s : List ℕ) (parts : Parts) (i : Checked s parts) where
   pub short_file : length s ≤ 16384
   short_file = (decoded s (plan_of s) i.read).size
 
-  few_there : Early (plan_of s) → parts.edges ≤ 512
+  pub few_there : Early (plan_of s) → parts.edges ≤ 512
   few_there e = omega (arith, i.parts_of.edges, e.few_edges)
 
-  edges_room : 337 + 140 * parts.edges ≤ length s * 8
+  pub edges_room : 337 + 140 * parts.edges ≤ length s * 8
   edges_room = file_room (plan_of s) s parts.edges i.parts_of.edges i.parts_of.edges_stand
 
   pub replies_there : RepliesAt s parts.replies_at parts.replies (plan_of s).replies
@@ -83,7 +83,7 @@ module _ (s : List ℕ) (parts : Parts) (i : Checked s parts) where
         countable = omega (arith, (widths s (plan_of s) i.read).initial_count);
       }
 
-known_of : (s : List ℕ) (parts : Parts) (header : PlanHeader) → Checked s parts → HeaderRead s header → Known s parts header
+pub known_of : (s : List ℕ) (parts : Parts) (header : PlanHeader) → Checked s parts → HeaderRead s header → Known s parts header
 known_of s parts header i h = record { checked = i; header_of = h (plan_of s) i.read }
 
 -- A refusal of build has a number above 0.
@@ -96,7 +96,7 @@ module _ (s : List ℕ) (parts : Parts) (header : PlanHeader) (ids sources count
   abbrev lists : Setup
   lists = setup header.n (duration_of header.lookahead) ids sources counts ds (lookaheads_for ds ws)
 
-  build_number_is : (a : Result (Unit {0}) BuildRefusal) → ChecksBuild header.n (duration_of header.lookahead) ids sources counts ds ws a → number_of a ≡ number (build (setup_of (plan_of s)) R.zeros).answer
+  pub build_number_is : (a : Result (Unit {0}) BuildRefusal) → ChecksBuild header.n (duration_of header.lookahead) ids sources counts ds ws a → number_of a ≡ number (build (setup_of (plan_of s)) R.zeros).answer
   build_number_is a j = numbered a _ (j.of_counters R.zeros) ∙ ap (λ (x : Setup). number (build x R.zeros).answer) i.lists
 
   pub setup_refused : (a : Result (Unit {0}) BuildRefusal) → ChecksBuild header.n (duration_of header.lookahead) ids sources counts ds ws a → (r : BuildRefusal) → a ≡ Err r → rehearsed (plan_of s) ≡ listed (end_line (number_of (Err r)) 0 0 0)
@@ -152,7 +152,7 @@ module _ (s : List ℕ) (parts : Parts) (header : PlanHeader) (from ds ws : List
         lookaheads_are = i.lookaheads_are;
       }
 
-early_is : (s : List ℕ) (parts : Parts) (header : PlanHeader) → Known s parts header → (n : ℕ) → n ≡ early_number header.n (duration_of header.lookahead) parts.edges → n ≡ early_number (plan_of s).n (plan_of s).lookahead (length (plan_of s).edges)
+pub early_is : (s : List ℕ) (parts : Parts) (header : PlanHeader) → Known s parts header → (n : ℕ) → n ≡ early_number header.n (duration_of header.lookahead) parts.edges → n ≡ early_number (plan_of s).n (plan_of s).lookahead (length (plan_of s).edges)
 early_is s parts header i n e = e ∙ (λ j. early_number (i.header_of.n j) (i.header_of.lookahead j) (i.checked.parts_of.edges j))
 
 -- 1, 2 and 5 before rows are made: a refusal is listed, and what passes has few edges, with room for them in the file.
